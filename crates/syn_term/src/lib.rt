@@ -1,0 +1,15 @@
+//! Symbols and terms: names, the table of declared symbols, and terms as trees whose nodes are
+//! made by a bank alone.
+#![tactic(auto)]
+
+mod memory;
+mod pointer;
+mod sorts;
+mod term;
+mod text;
+
+pub use memory::NoMemory;
+pub use pointer::Shared;
+pub use sorts::{Head, Kind, NamedSort, Shape, Sort, Sym, SymId, Var};
+pub use term::{Node, Place, Term};
+pub use text::Text;
