@@ -2,14 +2,18 @@
 //! made by a bank alone.
 #![tactic(auto)]
 
+mod bank;
 mod memory;
 mod pointer;
 mod sorts;
+mod symbols;
 mod term;
 mod text;
 
+pub use bank::Bank;
 pub use memory::NoMemory;
 pub use pointer::Shared;
 pub use sorts::{Head, Kind, NamedSort, Shape, Sort, Sym, SymId, Var};
+pub use symbols::Symbols;
 pub use term::{Node, Place, Term};
 pub use text::Text;
