@@ -1,5 +1,6 @@
 -- What contracts see of a table of symbols.
-use Rattle.std.specs.Prelude.{◌≡◌, ℕ, ◌<◌, ◌++◌, List, Option, slice_get, length}
+use Rattle.std.specs.Prelude.{◌≡◌, ◌<◌, ◌++◌, List, [], ◌∷◌, Option, Some, codes, slice_get, length}
+use Rattle.syn_term.specs.declared.sorts.Kind.TheVariants as kind
 use Rattle.syn_term.specs.declared.sorts.Sort.{Sort}
 use Rattle.syn_term.specs.declared.sorts.Sort.TheVariants.{Nat, Named}
 use Rattle.syn_term.specs.declared.sorts.Sym.{Sym}
@@ -26,3 +27,14 @@ pub record IsPrefix (a b : SymbolTable) : Type 0 where
   pub more_sorts : List NamedSort
   pub syms : b.syms ≡ a.syms ++ more_syms
   pub sorts : b.sorts ≡ a.sorts ++ more_sorts
+
+-- the symbols that each table begins with: `0` and `s`
+abbrev pub zero_symbol : Sym
+zero_symbol = record { name = codes "0"; kind = kind.Zero; args = []; result = Some Nat }
+
+abbrev pub succ_symbol : Sym
+succ_symbol = record { name = codes "s"; kind = kind.Succ; args = Nat ∷ []; result = Some Nat }
+
+-- the table that holds `0` and `s` alone
+abbrev pub first_symbols : SymbolTable
+first_symbols = record { syms = zero_symbol ∷ succ_symbol ∷ []; sorts = [] }

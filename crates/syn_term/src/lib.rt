@@ -4,6 +4,7 @@
 
 mod bank;
 mod memory;
+mod names;
 mod pointer;
 mod sorts;
 mod symbols;
@@ -12,6 +13,7 @@ mod text;
 
 pub use bank::Bank;
 pub use memory::NoMemory;
+pub use names::is_name;
 pub use pointer::Shared;
 pub use sorts::{Head, Kind, NamedSort, Shape, Sort, Sym, SymId, Var};
 pub use symbols::Symbols;

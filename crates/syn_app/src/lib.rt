@@ -1,0 +1,7 @@
+//! The top call: what the shipped program does, given the words after its name, a cabinet of files
+//! and a sink.
+#![tactic(auto)]
+
+mod readings;
+
+pub use readings::{Base, Entry, FormReading, Row, RowReading, Step, TermReading};

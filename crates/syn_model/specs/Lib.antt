@@ -1,0 +1,6 @@
+pub mod Values
+pub mod Trees
+pub mod Evaluation
+pub mod Truth
+pub mod Correctness
+pub mod ProgramText
