@@ -1,3 +1,4 @@
 pub mod Trees
 pub mod Banks
 pub mod Lists
+pub mod Same
