@@ -3,12 +3,14 @@
 #![tactic(auto)]
 
 mod memory;
+mod names;
 mod pointer;
 mod sorts;
 mod term;
 mod text;
 
 pub use memory::NoMemory;
+pub use names::{is_name, is_skolem_name};
 pub use pointer::Shared;
 pub use sorts::{Head, Kind, NamedSort, Shape, Sort, Sym, SymId, Var};
 pub use term::{Node, Place, Term};

@@ -1,0 +1,3 @@
+pub mod NameLaws
+pub mod NumberLemmas
+pub mod SkolemLemmas
