@@ -1,3 +1,5 @@
 pub mod NameLaws
 pub mod NumberLemmas
 pub mod SkolemLemmas
+pub mod SymbolLaws
+pub mod KeyLemmas

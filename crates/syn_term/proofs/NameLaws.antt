@@ -1,10 +1,10 @@
 -- What the bytes of a name are. A byte below 128 is a character of its own, so it is told by what the two properties say
 -- of ASCII; a byte from 128 on is part of another character, and none of the marks that texts use is such a byte.
-use Rattle.std.proofs.Common.{◌≡◌, ℕ, zero, suc, ◌+◌, ◌<◌, ◌≤◌, ◌^◌, ◌⊎◌, ◌++◌, ◌||◌, ◌==◌, ◌&&◌, Bool, true, false, not, cond, List, [], ◌∷◌, All, length, get_or, codes, sym, ◌∙◌, ap, subst, refl, inl, inr, arith, ⊎_elim, append_assoc, decimal, IsTrue, true≢false}
-use Rattle.std.specs.Char.{is_ascii_alphabetic, is_ascii_alphanumeric}
-use Rattle.std.specs.Str.{IsUtf8, NonePass, NoCharPasses, chars}
+use Rattle.std.proofs.Common.{◌≡◌, ℕ, zero, suc, ◌<◌, ◌^◌, ◌⊎◌, ◌++◌, ◌&&◌, Bool, true, false, not, List, [], ◌∷◌, All, length, get_or, sym, ◌∙◌, ap, subst, refl, inl, inr, arith, ⊎_elim, append_assoc, true≢false}
+use Rattle.std.specs.Char.{is_ascii_alphabetic}
+use Rattle.std.specs.Str.{NonePass, chars}
 use Rattle.std.specs.List.{list_all}
-use lib.Utf8.{encodes, encode}
+use lib.Utf8.{encodes}
 use Rattle.std.proofs.lemmas.Str.{NoCharPasses-byte, encodes-chars, char_from_byte, chars-nil}
 use Rattle.std.proofs.lemmas.List.Elements.{All-from_get_or, All-same, All-cons, All-append}
 use Rattle.std.specs.Int.{IsInRange}

@@ -1,8 +1,7 @@
 -- Which texts are the digits of a number.
-use Rattle.std.proofs.Common.{◌≡◌, ℕ, ◌<◌, ◌^◌, List, Result, Ok, Err, decimal, sym, ◌∙◌, subst, arith, true, nat_lt, ◌↔◌}
+use Rattle.std.proofs.Common.{◌≡◌, ℕ, ◌<◌, ◌^◌, List, Result, Ok, Err, decimal, sym, ◌∙◌, subst, arith}
 use Rattle.std.specs.Str.Parse.{ParsesUnsigned}
 use Rattle.std.proofs.lemmas.Fmt.{parse-decimal, decimal_injective}
-use Rattle.std.proofs.lemmas.Bool.Decides.{nat_tests}
 use Rattle.syn_term.specs.Names.{IsNumber}
 
 -- what can't be read is not the digits of a number

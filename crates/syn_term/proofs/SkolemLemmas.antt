@@ -1,5 +1,5 @@
 -- How the name of a Skolem symbol is cut at its marks.
-use Rattle.std.proofs.Common.{◌≡◌, ◌≢◌, ℕ, ◌<◌, ◌++◌, List, [], ◌∷◌, Option, Some, None, MatchOption, length, get_or, Bor, sym, ◌∙◌, ap, subst, refl, append_assoc, arith}
+use Rattle.std.proofs.Common.{◌≡◌, ◌≢◌, ℕ, ◌++◌, List, [], ◌∷◌, Some, None, Bor, sym, ◌∙◌, ap, subst, refl, append_assoc, arith}
 use Rattle.std.proofs.lemmas.Str.Pattern.{IsSplitOnceResult, split_after, split_parts}
 use Rattle.syn_term.specs.Names.{IsTag, IsNumber, IsSkolemName}
 use Rattle.syn_term.proofs.NameLaws.{skolem_is, tag_without}

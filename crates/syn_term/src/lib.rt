@@ -6,6 +6,7 @@ mod memory;
 mod names;
 mod pointer;
 mod sorts;
+mod symbols;
 mod term;
 mod text;
 
@@ -13,5 +14,6 @@ pub use memory::NoMemory;
 pub use names::{is_name, is_skolem_name};
 pub use pointer::Shared;
 pub use sorts::{Head, Kind, NamedSort, Shape, Sort, Sym, SymId, Var};
+pub use symbols::Symbols;
 pub use term::{Node, Place, Term};
 pub use text::Text;

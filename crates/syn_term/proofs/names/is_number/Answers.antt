@@ -1,4 +1,4 @@
-use Rattle.std.proofs.Common.{◌<◌, ◌≡◌, ◌^◌, arith, true, nat_lt}
+use Rattle.std.proofs.Common.{◌<◌, arith}
 use Rattle.std.proofs.lemmas.Bool.Decides.{nat_tests}
 use Rattle.syn_term.proofs.NumberLemmas.{number_bounds}
 use Rattle.syn_term.proofs.names.is_number.Goals as goal

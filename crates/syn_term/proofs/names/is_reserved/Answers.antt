@@ -1,4 +1,4 @@
-use Rattle.std.proofs.Common.{◌≡◌, ℕ, ◌<◌, List, Bool, true, length, get_or, sym, ◌∙◌, subst, refl, Contains}
+use Rattle.std.proofs.Common.{◌≡◌, ℕ, List, Bool, true, get_or, sym, ◌∙◌, subst, refl, Contains}
 use Rattle.std.specs.Str.{bytes_eq}
 use Rattle.std.specs.List.{list_any}
 use Rattle.std.proofs.lemmas.List.Folds.{Any-from_list_any, list_any-from_Any}

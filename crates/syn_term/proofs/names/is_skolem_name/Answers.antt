@@ -1,4 +1,4 @@
-use Rattle.std.proofs.Common.{◌≡◌, List, ◌∷◌, Option, Some, None, arith, sym, ◌∙◌, true, false, true≢false}
+use Rattle.std.proofs.Common.{Some, None, arith, sym, ◌∙◌, true≢false}
 use Rattle.std.proofs.lemmas.Str.Pattern.{strip_prefix_char}
 use Rattle.syn_term.proofs.SkolemLemmas.{without_mark, without_stop, cut_is, cut_parts}
 use Rattle.syn_term.proofs.names.is_skolem_name.Goals as goal
