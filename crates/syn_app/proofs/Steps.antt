@@ -15,23 +15,15 @@ use Rattle.syn_model.specs.declared.trees.Out.TheVariants as out
 use Rattle.syn_model.specs.Trees.{FormTree, OutTree, SpecTree}
 use Rattle.syn_app.specs.declared.readings.Row.{Row}
 use Rattle.syn_app.specs.declared.readings.TermReading.{TermReading}
+use Rattle.syn_app.specs.declared.readings.Step.{Step}
+use Rattle.syn_app.specs.declared.readings.Step.TheVariants as step
 use Rattle.syn_app.specs.Terms.{term_tree, term_size, IsClosed}
 use Rattle.syn_app.specs.SpecText.{output_variable, ensures_of}
 use Rattle.syn_app.specs.Limits.{FitsRow, FitsStep}
 use Rattle.syn_app.specs.Rows.{Substitution, image, substituted, substituted_step, renamed, renamed_step, renumbered, renamed_row, bare_row, bare_form, bare_out, HasVariable, has_variable_step, OccursIn, IsUnifier, IsMostGeneral, instance_of, AreVariants, simplified_row, simplified_form}
-use Rattle.syn_app.specs.Replay.{goal_row, GoalGives, ReflexGives}
+use Rattle.syn_app.specs.Shapes.{row_variable, open_goal, solved_goal, IsOpen, HasShape, StepGives, IsTarget}
+use Rattle.syn_app.specs.Replay.{Follows, row_at, goal_row, GoalGives, ReflexGives}
 use Rattle.syn_app.proofs.Closed.{substituted-closed, renamed-closed, bare-term_tree, closed-has, nodes-term_tree, depth_of-term_tree}
-
--- the row variable with this number
-abbrev pub row_variable : ℕ → TermTree
-row_variable n = variable_tree (record { number = n; sort = sort.Nat })
-
--- `?n = T | ?n`, and `true | T`
-abbrev pub open_goal : TermTree → ℕ → Row
-open_goal t n = record { form = form.Equal (row_variable n) t; out = out.Give (row_variable n) }
-
-abbrev pub solved_goal : TermTree → Row
-solved_goal t = record { form = form.True; out = out.Give t }
 
 bare-variable : (v : Var) → bare (variable_tree v) ≡ variable_tree v
 bare-variable v = fold-Var bare_step nowhere v
@@ -216,3 +208,29 @@ module _ (r : TermReading) (closed : IsClosed r.base) (short : term_size r ≤ 1
     -- a solved goal has no equality to reflect
     pub reflex_solved : (row : Row) → ReflexGives (solved_goal (term_tree r)) row → ⊥
     reflex_solved row g = cc (g.equality)
+
+-- where all rows before are of the two shapes, a row follows exactly where the step gives it, in shapes
+module _ (t : TermTree) (spec : SpecTree) (target : IsTarget t spec) (before : List Row) (shapes : (k : ℕ) (parent : Row) → row_at before k ≡ Some parent → HasShape t parent) (row : Row) where
+  abbrev r : TermReading
+  r = target.reading
+
+  follows_from : (s : Step) → StepGives t before s (bare_row row) → Follows spec before s row
+  follows_from step.Goal g = goal_gives target.reading target.closed target.short spec target.condition row g.0 (g.1 ∙ ap (λ (z : TermTree). open_goal z g.0) target.is)
+  follows_from (step.Reflex k) g =
+      ( open_goal t g.0.0
+      , g.0.1
+      , subst (λ (z : TermTree). ReflexGives (open_goal z g.0.0) row) (sym target.is) (reflex_gives target.reading target.closed target.short spec target.condition row g.0.0 (g.1 ∙ ap solved_goal target.is)) )
+
+  reflects : (parent : Row) → HasShape t parent → ReflexGives parent row → IsOpen t parent × (bare_row row ≡ solved_goal t)
+  reflects parent (inl o) g =
+      ( o
+      , reflex_only target.reading target.closed target.short spec target.condition row o.0 (subst (λ (z : Row). ReflexGives z row) (o.1 ∙ ap (λ (z : TermTree). open_goal z o.0) target.is) g) ∙ ap solved_goal (sym target.is) )
+  reflects parent (inr s) g = absurd (reflex_solved target.reading target.closed target.short spec target.condition row (subst (λ (z : Row). ReflexGives z row) (s ∙ ap solved_goal target.is) g))
+
+  follows_to : (s : Step) → Follows spec before s row → StepGives t before s (bare_row row)
+  follows_to step.Goal g =
+      let h = goal_only target.reading target.closed target.short spec target.condition row g in
+      (h.0, h.1 ∙ ap (λ (z : TermTree). open_goal z h.0) (sym target.is))
+  follows_to (step.Reflex k) f =
+      let h = reflects f.0 (shapes k f.0 f.1) f.2 in
+      ((h.0.0, f.1 ∙ ap (λ (z : Row). Some z) h.0.1), h.1)

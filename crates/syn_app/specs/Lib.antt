@@ -6,3 +6,4 @@ pub mod SpecText
 pub mod DerivationText
 pub mod Rows
 pub mod Replay
+pub mod Shapes
