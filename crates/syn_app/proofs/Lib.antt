@@ -1,3 +1,5 @@
 pub mod Closed
 pub mod Steps
 pub mod Correct
+pub mod Simplified
+pub mod Growth

@@ -1,9 +1,13 @@
 -- The rows that follow for a specification whose condition is `z = T`, with no variable in T: a variant of the goal, or
 -- `true | T`. The check looks for these two shapes, and a law ties them to the rules.
-use Rattle.std.specs.Prelude.{◌≡◌, ◌⊎◌, ℕ, ◌≤◌, List, Some}
+use Rattle.std.specs.Prelude.{◌≡◌, ◌≢◌, ◌⊎◌, ℕ, ◌≤◌, List, [], Some}
 use Rattle.syn_term.specs.declared.sorts.Sort.TheVariants as sort
+use Rattle.syn_term.specs.declared.sorts.Sym.{Sym}
+use Rattle.syn_term.specs.declared.sorts.SymId.{SymId}
+use Rattle.syn_term.specs.declared.sorts.Kind.TheVariants as kinds
+use Rattle.syn_term.specs.Symbols.{SymbolTable, symbol_at, zero_symbol, succ_symbol}
 use Rattle.syn_term.specs.Terms.{TermTree, variable_tree}
-use Rattle.syn_term.specs.Bank.{Kept, Belongs}
+use Rattle.syn_term.specs.Bank.{Kept, Agree, Belongs}
 use Rattle.syn_model.specs.declared.trees.Form.TheVariants as form
 use Rattle.syn_model.specs.declared.trees.Out.TheVariants as out
 use Rattle.syn_model.specs.Trees.{FormTree, OutTree, SpecTree}
@@ -13,7 +17,7 @@ use Rattle.syn_app.specs.declared.readings.Step.{Step}
 use Rattle.syn_app.specs.declared.readings.Step.TheVariants as step
 use Rattle.syn_app.specs.Replay.{row_at}
 use Rattle.syn_app.specs.SpecText.{ensures_of}
-use Rattle.syn_app.specs.Terms.{term_tree, term_size, IsClosed}
+use Rattle.syn_app.specs.Terms.{term_tree, term_size, IsClosed, zero_id, succ_id, input_id}
 
 -- the row variable with this number
 abbrev pub row_variable : ℕ → TermTree
@@ -56,3 +60,23 @@ OutBelongs b (out.Give t) = Belongs b t
 
 abbrev pub RowBelongs : Kept → Row → Type 0
 RowBelongs b row = FormBelongs b row.form × OutBelongs b row.out
+
+-- the sides of an equality may be compared
+abbrev pub SidesAgree : FormTree → Type 0
+SidesAgree form.True = Unit {0}
+SidesAgree (form.Equal s t) = Agree s t
+
+-- the symbol has no arguments and the result `nat`, and may stand in a term
+pub record IsLeaf (table : SymbolTable) (f : SymId) : Type 0 where
+  pub sym : Sym
+  pub is : symbol_at table f ≡ Some sym
+  pub no_relation : sym.kind ≢ kinds.Rel
+  pub no_order : sym.kind ≢ kinds.Order
+  pub args : sym.args ≡ []
+  pub result : sym.result ≡ Some sort.Nat
+
+-- the table has `0`, `s` and the input where terms of texts have them
+pub record HasTexts (table : SymbolTable) : Type 0 where
+  pub zero : symbol_at table zero_id ≡ Some zero_symbol
+  pub succ : symbol_at table succ_id ≡ Some succ_symbol
+  pub input : IsLeaf table input_id

@@ -3,5 +3,6 @@
 #![tactic(auto)]
 
 mod readings;
+mod rows;
 
 pub use readings::{Base, Entry, FormReading, Row, RowReading, Step, TermReading};
