@@ -3,3 +3,4 @@ pub mod Steps
 pub mod Correct
 pub mod Simplified
 pub mod Growth
+pub mod Numbered

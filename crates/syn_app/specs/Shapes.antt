@@ -1,6 +1,6 @@
 -- The rows that follow for a specification whose condition is `z = T`, with no variable in T: a variant of the goal, or
 -- `true | T`. The check looks for these two shapes, and a law ties them to the rules.
-use Rattle.std.specs.Prelude.{◌≡◌, ◌≢◌, ◌⊎◌, ℕ, ◌≤◌, List, [], Some}
+use Rattle.std.specs.Prelude.{◌≡◌, ◌≢◌, ◌⊎◌, ℕ, ◌+◌, ◌<◌, ◌≤◌, List, [], Option, None, Some, take, length, slice_get}
 use Rattle.syn_term.specs.declared.sorts.Sort.TheVariants as sort
 use Rattle.syn_term.specs.declared.sorts.Sym.{Sym}
 use Rattle.syn_term.specs.declared.sorts.SymId.{SymId}
@@ -15,7 +15,11 @@ use Rattle.syn_app.specs.declared.readings.TermReading.{TermReading}
 use Rattle.syn_app.specs.declared.readings.Row.{Row}
 use Rattle.syn_app.specs.declared.readings.Step.{Step}
 use Rattle.syn_app.specs.declared.readings.Step.TheVariants as step
-use Rattle.syn_app.specs.Replay.{row_at}
+use Rattle.syn_app.specs.declared.readings.Entry.{Entry}
+use Rattle.syn_app.specs.declared.replay.CheckError.{CheckError}
+use Rattle.syn_app.specs.declared.replay.CheckError.TheVariants as error
+use Rattle.syn_app.specs.Rows.{simplified_row}
+use Rattle.syn_app.specs.Replay.{row_at, simplified_rows}
 use Rattle.syn_app.specs.SpecText.{ensures_of}
 use Rattle.syn_app.specs.Terms.{term_tree, term_size, IsClosed, zero_id, succ_id, input_id}
 
@@ -80,3 +84,48 @@ pub record HasTexts (table : SymbolTable) : Type 0 where
   pub zero : symbol_at table zero_id ≡ Some zero_symbol
   pub succ : symbol_at table succ_id ≡ Some succ_symbol
   pub input : IsLeaf table input_id
+
+-- a row's terms may be compared with the target
+abbrev pub FormAgrees : FormTree → TermTree → Type 0
+FormAgrees form.True target = Unit {0}
+FormAgrees (form.Equal s t) target = Agree t target
+
+abbrev pub OutAgrees : OutTree → TermTree → Type 0
+OutAgrees (out.Give t) target = Agree t target
+
+abbrev pub RowAgrees : Row → TermTree → Type 0
+RowAgrees row target = FormAgrees row.form target × OutAgrees row.out target
+
+-- the row is there, and its formula is an equality
+abbrev pub IsEquation : FormTree → Type 0
+IsEquation form.True = ⊥
+IsEquation (form.Equal s t) = Unit {0}
+
+abbrev pub HasEquation : Option Row → Type 0
+HasEquation None = ⊥
+HasEquation (Some row) = IsEquation row.form
+
+-- each row has one of the two shapes
+abbrev pub HaveShape : TermTree → List Row → Type 0
+HaveShape t rows = (k : ℕ) (row : Row) → row_at rows k ≡ Some row → HasShape t row
+
+-- entry i, from 0, is what its step gives, in shapes
+abbrev pub ShapedAt : TermTree → List Entry → ℕ → Type 0
+ShapedAt t entries i = (e : Entry) × (slice_get entries i ≡ Some e) × StepGives t (take i (simplified_rows entries)) e.step (simplified_row e.row)
+
+-- so are the first n entries
+abbrev pub AreShaped : TermTree → List Entry → ℕ → Type 0
+AreShaped t entries n = (i : ℕ) → i < n → ShapedAt t entries i
+
+-- entry n, from 1, is the first that isn't
+pub record IsFirstUnshaped (t : TermTree) (entries : List Entry) (n : ℕ) : Type 0 where
+  pub at : ℕ
+  pub is : n ≡ at + 1
+  pub within : at < length entries
+  pub before : AreShaped t entries at
+  pub fails : ¬ (ShapedAt t entries at)
+
+abbrev pub FirstUnshaped : TermTree → List Entry → CheckError → Type 0
+FirstUnshaped t entries (error.NotFollows n) = IsFirstUnshaped t entries n
+FirstUnshaped t entries error.NotFinal = ⊥
+FirstUnshaped t entries error.NoMemory = Unit {0}

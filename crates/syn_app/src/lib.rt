@@ -3,6 +3,7 @@
 #![tactic(auto)]
 
 mod readings;
+mod replay;
 mod rows;
 
 pub use readings::{Base, Entry, FormReading, Row, RowReading, Step, TermReading};
