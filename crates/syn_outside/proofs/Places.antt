@@ -1,8 +1,9 @@
 -- Where the first file of a name stands: what a search from the front has shown.
-use Rattle.std.proofs.Common.{◌≡◌, ℕ, suc, zero, ◌<◌, ◌≤◌, List, [], ◌∷◌, ◌++◌, length, get_or, take, Result, Ok, Err, Some, None, Bool, true, false, refl, sym, ap, ◌∙◌, subst, arith, cond}
+use Rattle.std.proofs.Common.{◌≡◌, ℕ, suc, zero, ◌<◌, ◌≤◌, List, [], ◌∷◌, ◌++◌, length, get_or, take, Option, Some, None, Bool, true, false, refl, sym, ap, ◌∙◌, subst, arith, cond}
 use Rattle.std.proofs.lemmas.List.{length-map}
+use Rattle.std.proofs.lemmas.Slice.Eq.{bytes_eq-Decides}
 use Rattle.std.specs.Str.{bytes_eq}
-use Rattle.std.specs.Prelude.{OnErr, slice_set, string_bytes, unwrap_or, Vec, String, if◌then◌else◌}
+use Rattle.std.specs.Prelude.{slice_set, string_bytes, unwrap_or, Vec, String, if◌then◌else◌}
 use Rattle.std.specs.declared.alloc.Global.{Global}
 use Rattle.std.proofs.lemmas.List.{get_or-map, map-set}
 use Rattle.std.proofs.Math.Seq.{map-set_same}
@@ -57,7 +58,7 @@ pub with_file-absent : (fs : List File) (name bytes : List ℕ) → file_of fs n
 with_file-absent [] name bytes h = refl
 with_file-absent (f ∷ fs) name bytes h =
     elim (bytes_eq f.0 name) as (λ z. cond z (Some f.1) (file_of fs name) ≡ None → cond z ((f.0, bytes) ∷ fs) (f ∷ with_file fs name bytes) ≡ f ∷ (fs ++ (name, bytes) ∷ [])) [
-        true ↦ (λ e. cc)
+      | true ↦ (λ e. cc)
       | false ↦ (λ e. ap (λ (z : List File). f ∷ z) (with_file-absent fs name bytes e))
     ] h
 
@@ -74,7 +75,38 @@ put_back items i v bytes is same =
     let file : List ℕ → File = λ b. (string_bytes v.0, b) in
     map-set_same seen items i (v.0, bytes) v (ap file same ∙ ap seen is)
 
--- What holds always holds on an error.
-pub on_err : {T E P : Type 0} (r : Result T E) → P → OnErr r P
-on_err (Ok x) p = tt
-on_err (Err e) p = p
+-- Other bytes do not pass the test.
+bytes_eq_other : (xs ys : List ℕ) → (xs ≡ ys → ⊥) → bytes_eq xs ys ≡ false
+bytes_eq_other xs ys h =
+    elim (bytes_eq xs ys) as (λ z. bytes_eq xs ys ≡ z → z ≡ false) [
+      | true ↦ (λ e. absurd (h ((bytes_eq-Decides xs ys).0 e)))
+      | false ↦ (λ e. refl)
+    ] refl
+
+-- After a write the name has the new bytes.
+pub file_of-with_file_same : (fs : List File) (name bytes : List ℕ) → file_of (with_file fs name bytes) name ≡ Some bytes
+file_of-with_file_same [] name bytes = let e : bytes_eq name name ≡ true = (bytes_eq-Decides name name).1 refl in rw e refl
+file_of-with_file_same (f ∷ fs) name bytes =
+    elim (bytes_eq f.0 name) as (λ z. bytes_eq f.0 name ≡ z → file_of (cond z ((f.0, bytes) ∷ fs) (f ∷ with_file fs name bytes)) name ≡ Some bytes) [
+      | true ↦ (λ e. rw e refl)
+      | false ↦ (λ e. rw e (file_of-with_file_same fs name bytes))
+    ] refl
+
+-- After a write each other name has the bytes that it had.
+pub file_of-with_file_other : (fs : List File) (name bytes other : List ℕ) → (other ≡ name → ⊥) → file_of (with_file fs name bytes) other ≡ file_of fs other
+file_of-with_file_other [] name bytes other h =
+    let e : bytes_eq name other ≡ false = bytes_eq_other name other (λ s. h (sym s)) in rw e refl
+file_of-with_file_other (f ∷ fs) name bytes other h =
+    elim (bytes_eq f.0 name) as (λ z. bytes_eq f.0 name ≡ z → file_of (cond z ((f.0, bytes) ∷ fs) (f ∷ with_file fs name bytes)) other ≡ file_of (f ∷ fs) other) [
+      | true ↦ (λ e. let n : bytes_eq f.0 other ≡ false = bytes_eq_other f.0 other (λ s. h (sym s ∙ (bytes_eq-Decides f.0 name).0 e)) in rw n refl)
+      | false ↦ (λ e. ap (λ (o : Option (List ℕ)). cond (bytes_eq f.0 other) (Some f.1) o) (file_of-with_file_other fs name bytes other h))
+    ] refl
+
+-- What a write of a part leaves of its own name and of each other, in the code's terms.
+pub written_same : (items : List Stored) (fs mid : List File) (name : List ℕ) (at : ℕ) (piece : List ℕ) → all_seen items ≡ written name at piece mid → mid ≡ fs → file_of (all_seen items) name ≡ Some (take at (bytes_of fs name) ++ piece)
+written_same items fs mid name at piece e same =
+    ap (λ (z : List File). file_of z name) (e ∙ ap (λ (z : List File). written name at piece z) same) ∙ file_of-with_file_same fs name (take at (bytes_of fs name) ++ piece)
+
+pub written_other : (items : List Stored) (fs mid : List File) (name : List ℕ) (at : ℕ) (piece other : List ℕ) → all_seen items ≡ written name at piece mid → mid ≡ fs → (other ≡ name → ⊥) → file_of (all_seen items) other ≡ file_of fs other
+written_other items fs mid name at piece other e same h =
+    ap (λ (z : List File). file_of z other) (e ∙ ap (λ (z : List File). written name at piece z) same) ∙ file_of-with_file_other fs name (take at (bytes_of fs name) ++ piece) other h

@@ -22,7 +22,7 @@ begins_step (Some fs) name old new k b t =
     let is : new ≡ take (length new) all = longer old new k all (b.is all here) t.told.2.0 t.grown in
     record {
       is = λ bytes h. let same : all ≡ bytes = cc in subst (λ (z : List ℕ). new ≡ take (length new) z) same is;
-      there = λ lt. (all, here, within_whole new all is)
+      there = λ lt. (all, here, within_whole new all is);
     }
 
 -- Nothing taken is a beginning.

@@ -39,14 +39,14 @@ is_to_fail fail calls = list_any (λ n. n == raised calls) fail
 abbrev pub after_read : MemoryFiles → MemoryFiles
 after_read m = record m {
   calls = raised m.calls;
-  read_faults = if is_to_fail m.fail m.calls then raised m.read_faults else m.read_faults
+  read_faults = if is_to_fail m.fail m.calls then raised m.read_faults else m.read_faults;
 }
 
 -- What a write of nothing leaves: likewise, with the fault on the other count.
 abbrev pub after_write : MemoryFiles → MemoryFiles
 after_write m = record m {
   calls = raised m.calls;
-  write_faults = if is_to_fail m.fail m.calls then raised m.write_faults else m.write_faults
+  write_faults = if is_to_fail m.fail m.calls then raised m.write_faults else m.write_faults;
 }
 
 -- What a write of k bytes leaves.
@@ -57,7 +57,7 @@ after_writing m name at piece = record (after_write m) { files = written name at
 abbrev pub after_put : MemoryText → MemoryText
 after_put m = record m {
   calls = raised m.calls;
-  faults = if is_to_fail m.fail m.calls then raised m.faults else m.faults
+  faults = if is_to_fail m.fail m.calls then raised m.faults else m.faults;
 }
 
 -- How many bytes a read moves: the least of the step, of what there is from the place on, and of the room.

@@ -8,6 +8,8 @@
 mod memory_files;
 mod memory_text;
 mod runtime;
+#[cfg(test)]
+mod tests;
 mod traits;
 mod whole;
 

@@ -1,7 +1,7 @@
 // Files in memory. Reads and writes are numbered together from 1 and fail where their number is
 // listed, and each moves at most a step, so a test can bring about each outcome of a read and a
 // write. A write makes the file's new bytes beside the old ones, so an error leaves all as it was.
-ghost use Rattle.std.specs.Prelude.{◌≡◌, ℕ, ◌-◌, ◌<◌, ◌≤◌, ◌↔◌, ◌⊎◌, List, [], ◌∷◌, ◌++◌, Option, Some, None, Err, IfOk, OnOk, OnErr, MatchOption, IsTrue, true, false, length, take, min, option_map};
+ghost use Rattle.std.specs.Prelude.{◌≡◌, ◌≢◌, ℕ, ◌-◌, ◌<◌, ◌≤◌, ◌↔◌, ◌⊎◌, List, [], ◌∷◌, ◌++◌, Option, Some, None, Err, IfOk, OnOk, OnErr, MatchOption, IsTrue, true, false, length, take, min, option_map};
 ghost use Rattle.syn_outside.specs.Faults.{Rose, HasCause, raised};
 ghost use Rattle.syn_outside.specs.Files.{File, file_of, bytes_of, HasDistinctNames, Gives, Reads, MayBegin, written, WritesSome};
 ghost use Rattle.syn_outside.specs.declared.traits.Trouble.{Trouble};
@@ -110,6 +110,8 @@ impl Cabinet for MemCabinet {
         // Which writes fail, how many bytes move, and what stays.
         ensures moved { IfOk result (λ k. (k ≡ min self.old.step (length piece.now)) × (self.new ≡ after_writing self.old name.now at (take k piece.now))) }
         ensures stays { OnErr result (self.new ≡ after_write self.old) }
+        ensures made { IfOk result (λ k. file_of self.new.files name.now ≡ Some (take at (bytes_of self.old.files name.now) ++ take k piece.now)) }
+        ensures others { (other : List ℕ) → other ≢ name.now → file_of self.new.files other ≡ file_of self.old.files other }
         ensures failed { (result ≡ Err Trouble.Failed) ↔ IsTrue (is_to_fail self.old.fail self.old.calls) }
     {
         if self.fails() {
@@ -149,7 +151,12 @@ fn copy_part(bytes: &[u8], at: usize, step: usize, buf: &mut [u8]) -> usize
 }
 
 // Makes the file of a name its first `at` bytes and then `piece`.
-fn put_at(files: &mut Vec<(String, Vec<u8>)>, name: &str, at: usize, piece: &[u8]) -> Result<(), AllocError>
+fn put_at(
+    files: &mut Vec<(String, Vec<u8>)>,
+    name: &str,
+    at: usize,
+    piece: &[u8],
+) -> Result<(), AllocError>
     requires { at ≤ length (bytes_of (all_seen files.old.items) name.now) }
     ensures ok { OnOk result (all_seen files.new.items ≡ written name.now at piece.now (all_seen files.old.items)) }
     ensures err { OnErr result (all_seen files.new.items ≡ all_seen files.old.items) }

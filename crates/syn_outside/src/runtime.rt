@@ -1,10 +1,11 @@
 // The real outside: the files of the current folder and standard output, each call one read or one
 // write of the runtime. What they hold is not told, so the clauses are those on counts; that the
 // runtime reads and writes what it says is trusted.
-ghost use Rattle.std.specs.Prelude.{◌≡◌, ℕ, ◌≤◌, Option, None, IfOk, length};
+ghost use Rattle.std.specs.Prelude.{◌≡◌, ℕ, ◌≤◌, Option, None, Err, IfOk, OnOk, OnErr, length};
 ghost use Rattle.syn_outside.specs.Faults.{Faults, Rose, HasCause, raised};
 ghost use Rattle.syn_outside.specs.Files.{File, Told, Gives, Reads, MayBegin, Writes, WritesSome};
 ghost use Rattle.syn_outside.specs.Texts.{Adds, PutsSome};
+ghost use Rattle.syn_outside.specs.declared.traits.Trouble.{Trouble};
 
 use crate::traits::{Cabinet, Sink, Trouble};
 use std::fs::{File, OpenOptions};
@@ -64,7 +65,17 @@ impl<'a, R: Files> Cabinet for FolderCabinet<'a, R> {
 
     ghost write_faults = { λ c. c.writes };
 
-    fn read(&mut self, name: &str, at: u64, buf: &mut [u8]) -> Result<usize, Trouble> {
+    fn read(&mut self, name: &str, at: u64, buf: &mut [u8]) -> Result<usize, Trouble>
+        ensures bytes { IfOk result (Reads None name.now at buf.old buf.new) }
+        ensures later { self.old.reads ≤ self.new.reads }
+        ensures writes { self.new.writes ≡ self.old.writes }
+        ensures cause { result ≡ Err Trouble.Failed → HasCause self.old.reads self.new.reads None name.now }
+
+        // Each error counts, and nothing else does.
+        ensures well { OnOk result (self.new ≡ self.old) }
+        ensures failed { OnErr result (result ≡ Err Trouble.Failed) }
+        ensures counts { OnErr result (self.new ≡ record self.old { reads = raised self.old.reads }) }
+    {
         match self.read_once(name, at, buf) {
             Ok(k) => Ok(k),
             Err(_) => {
@@ -74,7 +85,18 @@ impl<'a, R: Files> Cabinet for FolderCabinet<'a, R> {
         }
     }
 
-    fn write(&mut self, name: &str, at: u64, piece: &[u8]) -> Result<usize, Trouble> {
+    fn write(&mut self, name: &str, at: u64, piece: &[u8]) -> Result<usize, Trouble>
+        requires { MayBegin None name.now at }
+        ensures files { IfOk result (WritesSome None None name.now at piece.now) }
+        ensures later { self.old.writes ≤ self.new.writes }
+        ensures reads { self.new.reads ≡ self.old.reads }
+        ensures cause { result ≡ Err Trouble.Failed → Rose self.old.writes self.new.writes }
+
+        // Each error counts, and nothing else does.
+        ensures well { OnOk result (self.new ≡ self.old) }
+        ensures failed { OnErr result (result ≡ Err Trouble.Failed) }
+        ensures counts { OnErr result (self.new ≡ record self.old { writes = raised self.old.writes }) }
+    {
         match self.write_once(name, at, piece) {
             Ok(k) if k > 0 || piece.is_empty() => Ok(k),
             // A write that moves nothing would be tried again without end.
@@ -113,7 +135,16 @@ impl<'a, R: Print> Sink for StdSink<'a, R> {
 
     ghost faults = { λ s. s };
 
-    fn put(&mut self, piece: &[u8]) -> Result<usize, Trouble> {
+    fn put(&mut self, piece: &[u8]) -> Result<usize, Trouble>
+        ensures text { IfOk result (PutsSome None None piece.now) }
+        ensures later { self.old ≤ self.new }
+        ensures cause { result ≡ Err Trouble.Failed → Rose self.old self.new }
+
+        // Each error counts, and nothing else does.
+        ensures well { OnOk result (self.new ≡ self.old) }
+        ensures failed { OnErr result (result ≡ Err Trouble.Failed) }
+        ensures counts { OnErr result (self.new ≡ raised self.old) }
+    {
         match self.rt.write_some(piece) {
             Ok(k) if k > 0 || piece.is_empty() => Ok(k),
             // A write that moves nothing would be tried again without end.

@@ -37,7 +37,12 @@ pub enum WriteError {
 const TURN: usize = 4096;
 
 /// Reads the file `name` whole, if it has at most `limit` bytes.
-pub fn read_all<C: Cabinet>(alloc: Global, cab: &mut C, name: &str, limit: u64) -> Result<Vec<u8>, ReadError>
+pub fn read_all<C: Cabinet>(
+    alloc: Global,
+    cab: &mut C,
+    name: &str,
+    limit: u64,
+) -> Result<Vec<u8>, ReadError>
     ensures bytes { IfOk result (λ v. Told (λ bytes. v.items ≡ bytes) (C.files cab.old) name.now) }
     ensures within { IfOk result (λ v. vec_len v ≤ limit) }
     ensures too_long { result ≡ Err ReadError.TooLong → Told (λ bytes. limit < length bytes) (C.files cab.old) name.now }
@@ -56,7 +61,12 @@ pub fn read_all<C: Cabinet>(alloc: Global, cab: &mut C, name: &str, limit: u64) 
 }
 
 // Takes the file `name` into `bytes` turn by turn, and answers the number of turns too.
-fn take_all<C: Cabinet>(cab: &mut C, name: &str, limit: u64, bytes: &mut Vec<u8>) -> (u64, Result<(), ReadError>)
+fn take_all<C: Cabinet>(
+    cab: &mut C,
+    name: &str,
+    limit: u64,
+    bytes: &mut Vec<u8>,
+) -> (u64, Result<(), ReadError>)
     requires { bytes.old.items ≡ [] }
     ensures turns { result.0 ≤ length bytes.new.items + 1 }
     ensures bound { result.0 ≤ limit + 1 }
@@ -85,7 +95,12 @@ fn take_all<C: Cabinet>(cab: &mut C, name: &str, limit: u64, bytes: &mut Vec<u8>
 }
 
 // Takes the next bytes of a file of which `bytes` is the beginning.
-fn take_part<C: Cabinet>(cab: &mut C, name: &str, bytes: &mut Vec<u8>, buffer: &mut [u8]) -> Result<usize, Trouble>
+fn take_part<C: Cabinet>(
+    cab: &mut C,
+    name: &str,
+    bytes: &mut Vec<u8>,
+    buffer: &mut [u8],
+) -> Result<usize, Trouble>
     requires { 0 < length buffer.old }
     ensures bytes { IfOk result (TakesPart (C.files cab.old) name.now bytes.old.items bytes.new.items) }
     ensures err { OnErr result (bytes.new.items ≡ bytes.old.items) }

@@ -12,10 +12,10 @@ pub returns-then-eq : goal.returns-then-eq
 returns-then-eq c =
     let lt : c.loop-i.i < length c.args.files.now = omega arith in
     found _ _ _ c.loop-i.invariant (omega (arith, length-map c.args.files.now seen))
-        (test_at _ _ _ _ _ _ lt c.index-files-i.is c.as_str.ensures.value c.eq.ensures ∙ c.if-eq.true)
+    (test_at _ _ _ _ _ _ lt c.index-files-i.is c.as_str.ensures.value c.eq.ensures ∙ c.if-eq.true)
 
 pub loop-i-preserved : goal.loop-i-preserved
 loop-i-preserved c =
     let lt : c.loop-i.i < length c.args.files.now = omega arith in
     below_more _ _ c.loop-i.invariant
-        (test_at _ _ _ _ _ _ lt c.index-files-i.is c.as_str.ensures.value c.eq.ensures ∙ c.if-eq.false)
+    (test_at _ _ _ _ _ _ lt c.index-files-i.is c.as_str.ensures.value c.eq.ensures ∙ c.if-eq.false)

@@ -2,7 +2,8 @@ use Rattle.std.proofs.Common.{◌<◌, length, arith, ◌≡◌, ◌∙◌, subs
 use Rattle.std.proofs.lemmas.Result.{on_ok_weaker}
 use Rattle.syn_outside.specs.Files.{file_of}
 use Rattle.syn_outside.specs.Memory.{all_seen, IsPlace}
-use Rattle.syn_outside.proofs.Places.{Stored, on_err, put_back, writes_at, writes_end}
+use Rattle.syn_outside.proofs.Places.{Stored, put_back, writes_at, writes_end}
+use Rattle.syn_outside.proofs.Results.{on_err}
 use Rattle.syn_outside.proofs.memory_files.put_at.Goals as goal
 
 pub returns-in_err-overwrite-in-Some-clause-err : goal.returns-in_err-overwrite-in-Some-clause-err
@@ -16,5 +17,5 @@ returns-in_ok-overwrite-in-Some-clause-ok c =
 pub returns-in-None-clause-ok : goal.returns-in-None-clause-ok
 returns-in-None-clause-ok c =
     on_ok_weaker c.add.result
-        (λ added. added ∙ sym (writes_end _ _ _ _ (subst (λ (z : List Stored). file_of (all_seen z) c.args.name.now ≡ None) c.deref.ensures.value c.in-None.ensures) c.requires))
-        c.add.ensures.ok
+    (λ added. added ∙ sym (writes_end _ _ _ _ (subst (λ (z : List Stored). file_of (all_seen z) c.args.name.now ≡ None) c.deref.ensures.value c.in-None.ensures) c.requires))
+    c.add.ensures.ok

@@ -10,7 +10,7 @@ invariant-loop-buffer g l = record {
   begins : IsBeginning (g.C.Cabinet.files l.initial.cab) l.name l.bytes.items;
   files : g.C.Cabinet.files l.cab ≡ g.C.Cabinet.files l.initial.cab;
   writes : g.C.Cabinet.write_faults l.cab ≡ g.C.Cabinet.write_faults l.initial.cab;
-  later : g.C.Cabinet.read_faults l.initial.cab ≤ g.C.Cabinet.read_faults l.cab
+  later : g.C.Cabinet.read_faults l.initial.cab ≤ g.C.Cabinet.read_faults l.cab;
 }
 
 -- The bytes that may still be taken.
