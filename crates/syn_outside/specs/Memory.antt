@@ -1,5 +1,5 @@
 -- Files and a text in memory, whose calls are numbered from 1 and fail where their number is listed.
-use Rattle.std.specs.Prelude.{if◌then◌else◌, ◌≡◌, ℕ, ◌-◌, ◌<◌, List, [], slice_index_or, slice_set, Option, Some, None, Bool, true, false, ◌==◌, length, take, min, map}
+use Rattle.std.specs.Prelude.{if◌then◌else◌, ◌≡◌, ℕ, ◌-◌, ◌<◌, List, [], ◌++◌, slice_index_or, slice_set, Option, Some, None, Bool, true, false, ◌==◌, length, take, min, map}
 use Rattle.std.specs.List.{list_any}
 use Rattle.std.specs.declared.alloc.Global.{Global}
 use Rattle.std.specs.Prelude.{Vec, String, string_bytes}
@@ -59,6 +59,10 @@ after_put m = record m {
   calls = raised m.calls;
   faults = if is_to_fail m.fail m.calls then raised m.faults else m.faults;
 }
+
+-- What a put of these bytes leaves.
+abbrev pub after_putting : MemoryText → List ℕ → MemoryText
+after_putting m piece = record (after_put m) { text = m.text ++ piece }
 
 -- How many bytes a read moves: the least of the step, of what there is from the place on, and of the room.
 abbrev pub read_count : MemoryFiles → List ℕ → ℕ → ℕ → ℕ

@@ -25,7 +25,14 @@ pub struct MemCabinet {
 impl Model for MemCabinet {
     ghost Value = { MemoryFiles };
 
-    ghost view = { λ c. record { files = all_seen c.files.items; step = c.step; fail = c.fail.items; calls = c.calls; read_faults = c.read_faults; write_faults = c.write_faults } };
+    ghost view = { λ c. record {
+      files = all_seen c.files.items;
+      step = c.step;
+      fail = c.fail.items;
+      calls = c.calls;
+      read_faults = c.read_faults;
+      write_faults = c.write_faults;
+    } };
 
     ghost invariant = { λ c. 0 < c.step };
 }
@@ -36,7 +43,14 @@ impl MemCabinet {
     pub fn new(files: Vec<(String, Vec<u8>)>, step: usize, fail: Vec<u64>) -> MemCabinet
         requires step { 0 < step }
         requires names { HasDistinctNames (all_seen files.items) }
-        ensures { result ≡ record { files = all_seen files.items; step = step; fail = fail.items; calls = 0; read_faults = 0; write_faults = 0 } }
+        ensures { result ≡ record {
+          files = all_seen files.items;
+          step = step;
+          fail = fail.items;
+          calls = 0;
+          read_faults = 0;
+          write_faults = 0;
+        } }
     {
         MemCabinet {
             files,
@@ -80,13 +94,16 @@ impl Cabinet for MemCabinet {
         ensures files { Some self.new.files ≡ Some self.old.files }
         ensures later { self.old.read_faults ≤ self.new.read_faults }
         ensures writes { self.new.write_faults ≡ self.old.write_faults }
-        ensures cause { result ≡ Err Trouble.Failed → HasCause self.old.read_faults self.new.read_faults (Some self.old.files) name.now }
+        ensures cause { result ≡ Err Trouble.Failed →
+            HasCause self.old.read_faults self.new.read_faults (Some self.old.files) name.now }
 
         // Which reads fail, how many bytes move, and what stays.
         ensures moved { IfOk result (λ k. k ≡ read_count self.old name.now at (length buf.old)) }
         ensures after { self.new ≡ after_read self.old }
         ensures failed { OnErr result (result ≡ Err Trouble.Failed) }
-        ensures fails { OnErr result (IsTrue (is_to_fail self.old.fail self.old.calls) ⊎ (file_of self.old.files name.now ≡ None)) }
+        ensures fails { OnErr result
+            (IsTrue (is_to_fail self.old.fail self.old.calls)
+            ⊎ (file_of self.old.files name.now ≡ None)) }
         ensures well { OnOk result (is_to_fail self.old.fail self.old.calls ≡ false) }
     {
         if self.fails() {
@@ -101,17 +118,22 @@ impl Cabinet for MemCabinet {
 
     fn write(&mut self, name: &str, at: u64, piece: &[u8]) -> Result<usize, Trouble>
         requires { MayBegin (Some self.old.files) name.now at }
-        ensures files { IfOk result (WritesSome (Some self.old.files) (Some self.new.files) name.now at piece.now) }
+        ensures files { IfOk result
+            (WritesSome (Some self.old.files) (Some self.new.files) name.now at piece.now) }
         ensures err { OnErr result (Some self.new.files ≡ Some self.old.files) }
         ensures later { self.old.write_faults ≤ self.new.write_faults }
         ensures reads { self.new.read_faults ≡ self.old.read_faults }
         ensures cause { result ≡ Err Trouble.Failed → Rose self.old.write_faults self.new.write_faults }
 
         // Which writes fail, how many bytes move, and what stays.
-        ensures moved { IfOk result (λ k. (k ≡ min self.old.step (length piece.now)) × (self.new ≡ after_writing self.old name.now at (take k piece.now))) }
+        ensures moved { IfOk result (λ k. k ≡ min self.old.step (length piece.now)) }
+        ensures after { IfOk result (λ k. self.new ≡ after_writing self.old name.now at (take k piece.now)) }
         ensures stays { OnErr result (self.new ≡ after_write self.old) }
-        ensures made { IfOk result (λ k. file_of self.new.files name.now ≡ Some (take at (bytes_of self.old.files name.now) ++ take k piece.now)) }
-        ensures others { (other : List ℕ) → other ≢ name.now → file_of self.new.files other ≡ file_of self.old.files other }
+        ensures made { IfOk result
+            (λ k. file_of self.new.files name.now
+            ≡ Some (take at (bytes_of self.old.files name.now) ++ take k piece.now)) }
+        ensures others { (other : List ℕ) → other ≢ name.now →
+            file_of self.new.files other ≡ file_of self.old.files other }
         ensures failed { (result ≡ Err Trouble.Failed) ↔ IsTrue (is_to_fail self.old.fail self.old.calls) }
     {
         if self.fails() {
@@ -128,7 +150,9 @@ impl Cabinet for MemCabinet {
 
 // The place of the first file of a name.
 fn place_of(files: &[(String, Vec<u8>)], name: &str) -> Option<usize>
-    ensures { MatchOption result (file_of (all_seen files.now) name.now ≡ None) (IsPlace (all_seen files.now) name.now) }
+    ensures { MatchOption result
+        (file_of (all_seen files.now) name.now ≡ None)
+        (IsPlace (all_seen files.now) name.now) }
 {
     for (i, file) in files.iter().enumerate() {
         if file.0.as_str() == name {
@@ -158,7 +182,8 @@ fn put_at(
     piece: &[u8],
 ) -> Result<(), AllocError>
     requires { at ≤ length (bytes_of (all_seen files.old.items) name.now) }
-    ensures ok { OnOk result (all_seen files.new.items ≡ written name.now at piece.now (all_seen files.old.items)) }
+    ensures ok { OnOk result
+        (all_seen files.new.items ≡ written name.now at piece.now (all_seen files.old.items)) }
     ensures err { OnErr result (all_seen files.new.items ≡ all_seen files.old.items) }
 {
     match place_of(files, name) {
@@ -185,7 +210,8 @@ fn overwrite(bytes: &mut Vec<u8>, at: usize, piece: &[u8]) -> Result<(), AllocEr
 
 // Adds a file at the end.
 fn add(files: &mut Vec<(String, Vec<u8>)>, name: &str, bytes: &[u8]) -> Result<(), AllocError>
-    ensures ok { OnOk result (all_seen files.new.items ≡ all_seen files.old.items ++ (name.now, bytes.now) ∷ []) }
+    ensures ok { OnOk result
+        (all_seen files.new.items ≡ all_seen files.old.items ++ (name.now, bytes.now) ∷ []) }
     ensures err { OnErr result (all_seen files.new.items ≡ all_seen files.old.items) }
 {
     let alloc = *files.allocator();

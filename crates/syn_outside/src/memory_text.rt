@@ -1,10 +1,10 @@
 // A text in memory. Its calls are numbered from 1 and fail where their number is listed, and a put
 // moves at most a step, so a test can bring about each outcome of a put.
-ghost use Rattle.std.specs.Prelude.{◌≡◌, ℕ, ◌<◌, ◌≤◌, ◌↔◌, List, [], ◌++◌, Option, Some, Err, IfOk, OnErr, MatchResult, IsTrue, true, false, length, take, min};
+ghost use Rattle.std.specs.Prelude.{◌≡◌, ℕ, ◌<◌, ◌≤◌, ◌↔◌, List, [], Option, Some, Err, IfOk, OnErr, MatchResult, IsTrue, true, false, length, take, min};
 ghost use Rattle.syn_outside.specs.Faults.{Rose, raised};
 ghost use Rattle.syn_outside.specs.Texts.{PutsSome};
 ghost use Rattle.syn_outside.specs.declared.traits.Trouble.{Trouble};
-ghost use Rattle.syn_outside.specs.Memory.{MemoryText, is_to_fail, after_put};
+ghost use Rattle.syn_outside.specs.Memory.{MemoryText, is_to_fail, after_put, after_putting};
 
 use crate::traits::{Sink, Trouble};
 use std::marker::Model;
@@ -22,7 +22,13 @@ pub struct MemSink {
 impl Model for MemSink {
     ghost Value = { MemoryText };
 
-    ghost view = { λ s. record { text = s.text.items; step = s.step; fail = s.fail.items; calls = s.calls; faults = s.faults } };
+    ghost view = { λ s. record {
+      text = s.text.items;
+      step = s.step;
+      fail = s.fail.items;
+      calls = s.calls;
+      faults = s.faults;
+    } };
 
     ghost invariant = { λ s. 0 < s.step };
 }
@@ -73,7 +79,8 @@ impl Sink for MemSink {
         ensures cause { result ≡ Err Trouble.Failed → Rose self.old.faults self.new.faults }
 
         // Which puts fail, and how many bytes move.
-        ensures moved { IfOk result (λ k. (k ≡ min self.old.step (length piece.now)) × (self.new ≡ record (after_put self.old) { text = self.old.text ++ take k piece.now })) }
+        ensures moved { IfOk result (λ k. k ≡ min self.old.step (length piece.now)) }
+        ensures after { IfOk result (λ k. self.new ≡ after_putting self.old (take k piece.now)) }
         ensures stays { OnErr result (self.new ≡ after_put self.old) }
         ensures failed { (result ≡ Err Trouble.Failed) ↔ IsTrue (is_to_fail self.old.fail self.old.calls) }
     {

@@ -1,4 +1,6 @@
 // What no clause can say: that calls succeed, on the real files, the real output and in memory.
+ghost use Rattle.std.specs.Prelude.{◌<◌};
+
 use super::*;
 use std::alloc::{AllocError, Global};
 use std::test::Fail;

@@ -36,7 +36,8 @@ pub trait Cabinet {
         ensures files { files self.new ≡ files self.old }
         ensures later { read_faults self.old ≤ read_faults self.new }
         ensures writes { write_faults self.new ≡ write_faults self.old }
-        ensures cause { result ≡ Err Trouble.Failed → HasCause (read_faults self.old) (read_faults self.new) (files self.old) name.now };
+        ensures cause { result ≡ Err Trouble.Failed →
+            HasCause (read_faults self.old) (read_faults self.new) (files self.old) name.now };
 
     /// Makes the file `name` its first `at` bytes followed by first bytes of `piece`, and answers
     /// how many of `piece`.

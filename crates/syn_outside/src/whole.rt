@@ -45,8 +45,10 @@ pub fn read_all<C: Cabinet>(
 ) -> Result<Vec<u8>, ReadError>
     ensures bytes { IfOk result (λ v. Told (λ bytes. v.items ≡ bytes) (C.files cab.old) name.now) }
     ensures within { IfOk result (λ v. vec_len v ≤ limit) }
-    ensures too_long { result ≡ Err ReadError.TooLong → Told (λ bytes. limit < length bytes) (C.files cab.old) name.now }
-    ensures fault { result ≡ Err ReadError.Fault → HasCause (C.read_faults cab.old) (C.read_faults cab.new) (C.files cab.old) name.now }
+    ensures too_long { result ≡ Err ReadError.TooLong →
+        Told (λ bytes. limit < length bytes) (C.files cab.old) name.now }
+    ensures fault { result ≡ Err ReadError.Fault →
+        HasCause (C.read_faults cab.old) (C.read_faults cab.new) (C.files cab.old) name.now }
 
     ensures files { C.files cab.new ≡ C.files cab.old }
     ensures writes { C.write_faults cab.new ≡ C.write_faults cab.old }
@@ -73,8 +75,10 @@ fn take_all<C: Cabinet>(
     ensures whole { OnOk result.1 (Told (λ all. bytes.new.items ≡ all) (C.files cab.old) name.now) }
     ensures within { OnOk result.1 (length bytes.new.items ≤ limit) }
     ensures given { result.1 ≡ Err ReadError.TooLong → limit < length bytes.new.items }
-    ensures too_long { result.1 ≡ Err ReadError.TooLong → Told (λ all. length bytes.new.items ≤ length all) (C.files cab.old) name.now }
-    ensures fault { result.1 ≡ Err ReadError.Fault → HasCause (C.read_faults cab.old) (C.read_faults cab.new) (C.files cab.old) name.now }
+    ensures too_long { result.1 ≡ Err ReadError.TooLong →
+        Told (λ all. length bytes.new.items ≤ length all) (C.files cab.old) name.now }
+    ensures fault { result.1 ≡ Err ReadError.Fault →
+        HasCause (C.read_faults cab.old) (C.read_faults cab.new) (C.files cab.old) name.now }
 
     ensures files { C.files cab.new ≡ C.files cab.old }
     ensures writes { C.write_faults cab.new ≡ C.write_faults cab.old }
@@ -104,7 +108,8 @@ fn take_part<C: Cabinet>(
     requires { 0 < length buffer.old }
     ensures bytes { IfOk result (TakesPart (C.files cab.old) name.now bytes.old.items bytes.new.items) }
     ensures err { OnErr result (bytes.new.items ≡ bytes.old.items) }
-    ensures fault { result ≡ Err Trouble.Failed → HasCause (C.read_faults cab.old) (C.read_faults cab.new) (C.files cab.old) name.now }
+    ensures fault { result ≡ Err Trouble.Failed →
+        HasCause (C.read_faults cab.old) (C.read_faults cab.new) (C.files cab.old) name.now }
 
     ensures files { C.files cab.new ≡ C.files cab.old }
     ensures writes { C.write_faults cab.new ≡ C.write_faults cab.old }
