@@ -1,9 +1,9 @@
 -- What one turn more adds to what a reader has taken and to what a writer has put.
-use Rattle.std.proofs.Common.{◌≡◌, ℕ, suc, zero, ◌+◌, ◌-◌, ◌<◌, ◌≤◌, List, [], ◌∷◌, ◌++◌, length, take, drop, Option, Some, None, refl, sym, ap, ◌∙◌, subst, arith, take-add, append_assoc, min, length-take}
+use Rattle.std.proofs.Common.{◌≡◌, ℕ, ◌+◌, ◌-◌, ◌≤◌, List, [], ◌++◌, length, take, drop, Option, Some, None, refl, sym, ap, ◌∙◌, subst, arith, take-add, append_assoc, length-take}
 use Rattle.std.proofs.lemmas.List.{take_all, take_rest}
 use Rattle.syn_outside.specs.Files.{File, file_of, Told}
-use Rattle.syn_outside.specs.Texts.{Adds, AddsPrefix}
-use Rattle.syn_outside.specs.Whole.{IsFile, AddsPart, TakesPart, IsBeginning}
+use Rattle.syn_outside.specs.Texts.{Adds}
+use Rattle.syn_outside.specs.Whole.{TakesPart, IsBeginning}
 
 -- A beginning and the next bytes are a beginning.
 longer : (old new : List ℕ) (k : ℕ) (bytes : List ℕ) → old ≡ take (length old) bytes → new ≡ old ++ take k (drop (length old) bytes) → length new ≡ length old + k → new ≡ take (length new) bytes

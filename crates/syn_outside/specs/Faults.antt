@@ -1,5 +1,5 @@
 -- Counts of faults, and what an answer of failure rests on.
-use Rattle.std.specs.Prelude.{◌≡◌, ℕ, ◌+◌, ◌-◌, ◌^◌, ◌≤◌, ◌⊎◌, List, Option, min}
+use Rattle.std.specs.Prelude.{ℕ, ◌+◌, ◌-◌, ◌^◌, ◌≤◌, ◌⊎◌, List, Option, min}
 use Rattle.syn_outside.specs.Files.{File, IsAbsent}
 
 -- One more, as far as a count of 64 bits goes.

@@ -1,5 +1,5 @@
 -- Files and a text in memory, whose calls are numbered from 1 and fail where their number is listed.
-use Rattle.std.specs.Prelude.{if◌then◌else◌, ◌≡◌, ℕ, ◌-◌, ◌<◌, List, [], ◌++◌, slice_index_or, slice_set, Option, Some, None, Bool, true, false, ◌==◌, length, take, min, map}
+use Rattle.std.specs.Prelude.{if◌then◌else◌, ◌≡◌, ℕ, ◌-◌, ◌<◌, List, [], ◌++◌, slice_index_or, slice_set, Some, Bool, ◌==◌, length, min, map}
 use Rattle.std.specs.List.{list_any}
 use Rattle.std.specs.declared.alloc.Global.{Global}
 use Rattle.std.specs.Prelude.{Vec, String, string_bytes}

@@ -1,7 +1,7 @@
-use Rattle.std.proofs.Common.{◌<◌, ◌∙◌, length, sym, arith}
+use Rattle.std.proofs.Common.{◌<◌, ◌∙◌, length, arith}
 use Rattle.std.proofs.lemmas.List.{length-map}
 use Rattle.std.proofs.Common.{below_more}
-use Rattle.syn_outside.specs.Memory.{seen, all_seen}
+use Rattle.syn_outside.specs.Memory.{seen}
 use Rattle.syn_outside.proofs.Places.{absent, found, test_at}
 use Rattle.syn_outside.proofs.memory_files.place_of.Goals as goal
 

@@ -1,4 +1,4 @@
-use Rattle.std.proofs.Common.{◌<◌, length, arith, ◌≡◌, ◌∙◌, subst, List, None, sym}
+use Rattle.std.proofs.Common.{◌≡◌, ◌∙◌, subst, List, None, sym}
 use Rattle.std.proofs.lemmas.Result.{on_ok_weaker}
 use Rattle.syn_outside.specs.Files.{file_of}
 use Rattle.syn_outside.specs.Memory.{all_seen, IsPlace}

@@ -1,4 +1,4 @@
-use Rattle.std.proofs.Common.{◌≡◌, ◌∙◌, ◌++◌, List, ℕ, Result, Some, Ok, take, ap, sym, subst}
+use Rattle.std.proofs.Common.{◌≡◌, ◌∙◌, ◌++◌, List, ℕ, Result, Some, take, ap, sym, subst}
 use Rattle.std.specs.Prelude.{IfOk}
 use Rattle.syn_outside.specs.declared.traits.Trouble.{Trouble}
 use Rattle.syn_outside.specs.Files.{File, file_of, bytes_of}
