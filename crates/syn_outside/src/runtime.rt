@@ -1,19 +1,19 @@
 // The real outside: the files of the current folder and standard output, each call one read or one
 // write of the runtime. What they hold is not told, so the clauses are those on counts; that the
 // runtime reads and writes what it says is trusted.
-ghost use Rattle.std.specs.Prelude.{◌≡◌, ℕ, ◌≤◌, Option, None, Err, IfOk, OnOk, OnErr, length};
+ghost use Rattle.std.specs.Prelude.{◌≡◌, ℕ, ◌<◌, ◌≤◌, Option, None, Err, IfOk, OnOk, OnErr, length};
 ghost use Rattle.syn_outside.specs.Faults.{Faults, Rose, HasCause, raised};
 ghost use Rattle.syn_outside.specs.Files.{File, Told, Gives, Reads, MayBegin, Writes, WritesSome};
 ghost use Rattle.syn_outside.specs.Texts.{Adds, PutsSome};
 ghost use Rattle.syn_outside.specs.declared.traits.Trouble.{Trouble};
 
 use crate::traits::{Cabinet, Sink, Trouble};
-use std::fs::{File, OpenOptions};
-use std::io::{self, Read, Seek, SeekFrom, Write};
+use std::fs::{File, OpenFile, OpenOptions};
+use std::io::{self, ErrorKind, Read, Seek, SeekFrom, Write};
 use std::marker::Model;
 use std::rt::Files;
 
-/// The files of the current folder.
+/// The files of the current folder. A name is a path as the runtime takes it.
 #[derive(Drop)]
 pub struct FolderCabinet<'a, R> {
     rt: &'a R,
@@ -47,14 +47,25 @@ impl<'a, R: Files> FolderCabinet<'a, R> {
         file.read(buf)
     }
 
+    // The file's old tail goes last, so that a write that fails leaves the file as it was.
     fn write_once(&self, name: &str, at: u64, piece: &[u8]) -> io::Result<usize>
-        ensures { IfOk result (λ k. k ≤ length piece.now) }
+        ensures within { IfOk result (λ k. k ≤ length piece.now) }
+        ensures some { IfOk result (λ k. 0 < length piece.now → 0 < k) }
     {
         let mut how = OpenOptions::new();
-        how.write(true).create(at == 0).truncate(at == 0);
+        how.write(true).create(at == 0);
         let mut file = how.open(self.rt, name)?;
         file.seek(SeekFrom::Start(at))?;
-        file.write(piece)
+        let count = file.write(piece)?;
+        if count == 0 && !piece.is_empty() {
+            // A write that moves nothing would be tried again without end.
+            return Err(io::Error::from(ErrorKind::WriteZero));
+        }
+        let end = at.saturating_add(count as u64);
+        if file.metadata()?.len() > end {
+            file.set_len(end)?;
+        }
+        Ok(count)
     }
 }
 
@@ -98,9 +109,8 @@ impl<'a, R: Files> Cabinet for FolderCabinet<'a, R> {
         ensures counts { OnErr result (self.new ≡ record self.old { writes = raised self.old.writes }) }
     {
         match self.write_once(name, at, piece) {
-            Ok(k) if k > 0 || piece.is_empty() => Ok(k),
-            // A write that moves nothing would be tried again without end.
-            _ => {
+            Ok(k) => Ok(k),
+            Err(_) => {
                 self.write_faults = self.write_faults.saturating_add(1);
                 Err(Trouble::Failed)
             }

@@ -71,7 +71,18 @@ fn works_on_the_folder(rt: HostRuntime) -> Result<(), Fail> {
     assert_eq!(rt; cab.write("a.txt", 0, b"longer than the last"), Ok(20));
     assert_eq!(rt; cab.write("a.txt", 0, b"first"), Ok(5));
     assert_eq!(rt; cab.write("a.txt", 5, b" second"), Ok(7));
-    let bytes = read_all(alloc, &mut cab, "a.txt", 100)?;
-    assert_eq!(rt; bytes.as_slice(), b"first second".as_slice());
+    assert_eq!(rt;
+        read_all(alloc, &mut cab, "a.txt", 100)?.as_slice(),
+        b"first second".as_slice()
+    );
+    assert_eq!(rt; cab.write("a.txt", 6, b"2"), Ok(1));
+    assert_eq!(rt;
+        read_all(alloc, &mut cab, "a.txt", 100)?.as_slice(),
+        b"first 2".as_slice()
+    );
+    assert_eq!(rt;
+        cab.write("b.txt", 1, b"no such file"),
+        Err(Trouble::Failed)
+    );
     Ok(())
 }

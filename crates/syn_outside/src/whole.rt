@@ -37,6 +37,9 @@ pub enum WriteError {
 const TURN: usize = 4096;
 
 /// Reads the file `name` whole, if it has at most `limit` bytes.
+///
+/// A name that isn't there is a `Fault`, as a read that fails. A file that goes past `limit` is
+/// `TooLong`, and little more than `limit` of it is read. The files stay as they were.
 pub fn read_all<C: Cabinet>(
     alloc: Global,
     cab: &mut C,
