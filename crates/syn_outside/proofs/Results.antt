@@ -1,0 +1,8 @@
+-- Facts of the outcomes of a call.
+use Rattle.std.proofs.Common.{Result, Ok, Err}
+use Rattle.std.specs.Prelude.{OnErr}
+
+-- What holds always holds on an error.
+pub on_err : {T E P : Type 0} (r : Result T E) → P → OnErr r P
+on_err (Ok x) p = tt
+on_err (Err e) p = p
