@@ -4,3 +4,5 @@ pub mod Terms
 pub mod TheoryText
 pub mod SpecText
 pub mod DerivationText
+pub mod Status
+pub mod Words

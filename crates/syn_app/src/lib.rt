@@ -2,6 +2,10 @@
 //! and a sink.
 #![tactic(auto)]
 
+mod command;
 mod readings;
+mod status;
 
+pub use command::{Command, command_of};
 pub use readings::{Base, Entry, FormReading, Row, RowReading, Step, TermReading};
+pub use status::{Status, Which, status_code, status_line};
