@@ -1,1 +1,3 @@
 pub mod FourWords
+pub mod PrintedText
+pub mod PrintedBare

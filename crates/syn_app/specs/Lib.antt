@@ -6,3 +6,4 @@ pub mod SpecText
 pub mod DerivationText
 pub mod Status
 pub mod Words
+pub mod Printing

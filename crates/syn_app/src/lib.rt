@@ -3,6 +3,7 @@
 #![tactic(auto)]
 
 mod command;
+mod printing;
 mod readings;
 mod status;
 

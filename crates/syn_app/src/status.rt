@@ -91,12 +91,12 @@ fn plain(alloc: Global, text: &str) -> Result<String, NoMemory>
 fn of_file(alloc: Global, text: &str, which: Which) -> Result<String, NoMemory>
     ensures { IfOk result (λ line. string_bytes line ≡ text.now ++ which_text which) }
 {
-    let name = which_name(which);
+    let name = which_text(which);
     Ok(format!(in alloc; "{text}{name}")?)
 }
 
 /// What texts call the file.
-fn which_name(which: Which) -> &'static str
+fn which_text(which: Which) -> &'static str
     ensures { result.now ≡ which_text which }
 {
     match which {
