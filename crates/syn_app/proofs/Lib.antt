@@ -4,3 +4,6 @@ pub mod Correct
 pub mod Simplified
 pub mod Growth
 pub mod Numbered
+pub mod FourWords
+pub mod PrintedText
+pub mod PrintedBare

@@ -7,3 +7,6 @@ pub mod DerivationText
 pub mod Rows
 pub mod Replay
 pub mod Shapes
+pub mod Status
+pub mod Words
+pub mod Printing

@@ -2,8 +2,13 @@
 //! and a sink.
 #![tactic(auto)]
 
+mod command;
+mod printing;
 mod readings;
 mod replay;
 mod rows;
+mod status;
 
+pub use command::{Command, command_of};
 pub use readings::{Base, Entry, FormReading, Row, RowReading, Step, TermReading};
+pub use status::{Status, Which, status_code, status_line};

@@ -129,6 +129,7 @@ fn follows(target: &Term, before: &[Row], step: Step, row: &Row) -> bool
 }
 
 /// The rows, simplified, each of which follows from those before it.
+#[tactic(auto, using(crate::proofs::Growth::growth))]
 fn replay(alloc: Global, bank: &mut Bank, syms: &Symbols, target: &Term, rows: &[RowReading]) -> Result<Vec<Row>, CheckError>
     requires table { HasTexts syms.now }
     requires target { Belongs bank.old target.now }

@@ -1,0 +1,35 @@
+-- What the printer's contracts cite beside the printed text: the program with one number as its input, and its symbols.
+use Rattle.std.specs.Prelude.{ℕ, ◌+◌, List, [], ◌∷◌, ◌++◌, Option, None, Some, if◌then◌else◌, nat_lt}
+use Rattle.syn_term.specs.declared.sorts.Sort.TheVariants as sort
+use Rattle.syn_term.specs.declared.term.Node.{fold-Node}
+use Rattle.syn_term.specs.Symbols.{SymbolTable, first_symbols}
+use Rattle.syn_term.specs.Terms.{TermTree, bare}
+use Rattle.syn_model.specs.declared.trees.Out.TheVariants as out
+use Rattle.syn_model.specs.Trees.{ProgramTree, input_symbol, program_symbol}
+use Rattle.syn_model.specs.ProgramText.{Printed, print_step}
+use Rattle.syn_app.specs.SpecText.{nat_declared}
+
+-- the text of a term with the number that the text is, where it is one
+abbrev pub printing_of : SymbolTable → TermTree → Printed
+printing_of table = fold-Node Printed (print_step table)
+
+-- the number after this one, where it is at most 1,000
+abbrev pub next_number : Option ℕ → Option ℕ
+next_number None = None
+next_number (Some n) = if nat_lt n 1000 then Some (n + 1) else None
+
+-- the program with this name and one input, a number, that gives the value of the body, a number too
+abbrev pub nat_program : List ℕ → List ℕ → TermTree → ProgramTree
+nat_program name input body = record {
+  name = name;
+  inputs = nat_declared input ∷ [];
+  result = sort.Nat;
+  body = out.Give (bare body);
+}
+
+-- its symbols: `0` and `s`, the program symbol, the input. A theory adds none yet
+abbrev pub nat_program_symbols : List ℕ → List ℕ → SymbolTable
+nat_program_symbols name input = record {
+  syms = first_symbols.syms ++ program_symbol name (nat_declared input ∷ []) sort.Nat ∷ input_symbol (nat_declared input) ∷ [];
+  sorts = first_symbols.sorts;
+}

@@ -1,0 +1,76 @@
+// The command lines: which words are which command. The form is tested once, by a call that takes no
+// memory; a command keeps copies of the names.
+ghost use Rattle.std.specs.Prelude.{◌≡◌, ◌∷◌, [], map, string_bytes, IfOk, MatchOption};
+ghost use Rattle.syn_app.specs.Words.{Fits, FitsNone, IsCheck, IsNoCheck};
+
+use std::alloc::Global;
+use syn_term::{NoMemory, Text};
+
+/// What the program is asked to do, with the names of the files.
+#[derive(Debug, Drop)]
+pub enum Command {
+    /// Check that the derivation is one of the specification over the theory.
+    Check {
+        theory: Text,
+        spec: Text,
+        deriv: Text,
+    },
+}
+
+/// The names of the files of a check, each not empty.
+#[derive(Clone, Copy, Debug)]
+pub(crate) struct Names<'a> {
+    pub(crate) theory: &'a str,
+    pub(crate) spec: &'a str,
+    pub(crate) deriv: &'a str,
+}
+
+/// The command that the words are, None exactly where they are of no form. The one error is want of
+/// memory.
+pub fn command_of(alloc: Global, words: &[String]) -> Result<Option<Command>, NoMemory>
+    ensures { IfOk result (λ o. MatchOption o (FitsNone (map string_bytes words.now)) (Fits (map string_bytes words.now))) }
+{
+    match check_names(words) {
+        None => Ok(None),
+        Some(names) => {
+            let theory = Text::from_str(alloc, names.theory)?;
+            let spec = Text::from_str(alloc, names.spec)?;
+            let deriv = Text::from_str(alloc, names.deriv)?;
+            Ok(Some(Command::Check {
+                theory,
+                spec,
+                deriv,
+            }))
+        }
+    }
+}
+
+/// The names of `check THEORY SPEC DERIV`, None exactly where the words are not of this form.
+pub(crate) fn check_names(words: &[String]) -> Option<Names<'_>>
+    ensures { MatchOption result (IsNoCheck (map string_bytes words.now)) (λ n. IsCheck (map string_bytes words.now) n.theory.now n.spec.now n.deriv.now) }
+{
+    match words {
+        [word, theory, spec, deriv] => check_form(
+            word.as_str(),
+            theory.as_str(),
+            spec.as_str(),
+            deriv.as_str(),
+        ),
+        _ => None,
+    }
+}
+
+/// The names, where the first of the four words is `check` and none of the others is empty.
+fn check_form<'a>(word: &str, theory: &'a str, spec: &'a str, deriv: &'a str) -> Option<Names<'a>>
+    ensures { MatchOption result (IsNoCheck (word.now ∷ theory.now ∷ spec.now ∷ deriv.now ∷ [])) (λ n. IsCheck (word.now ∷ theory.now ∷ spec.now ∷ deriv.now ∷ []) n.theory.now n.spec.now n.deriv.now) }
+{
+    if word == "check" && !theory.is_empty() && !spec.is_empty() && !deriv.is_empty() {
+        Some(Names {
+            theory,
+            spec,
+            deriv,
+        })
+    } else {
+        None
+    }
+}
