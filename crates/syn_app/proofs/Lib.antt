@@ -7,3 +7,4 @@ pub mod Numbered
 pub mod FourWords
 pub mod PrintedText
 pub mod PrintedBare
+pub mod Replays

@@ -216,15 +216,17 @@ module _ (t : TermTree) (spec : SpecTree) (target : IsTarget t spec) (before : L
 
   follows_from : (s : Step) → StepGives t before s (bare_row row) → Follows spec before s row
   follows_from step.Goal g = goal_gives target.reading target.closed target.short spec target.condition row g.0 (g.1 ∙ ap (λ (z : TermTree). open_goal z g.0) target.is)
-  follows_from (step.Reflex k) g =
-      ( open_goal t g.0.0
-      , g.0.1
-      , subst (λ (z : TermTree). ReflexGives (open_goal z g.0.0) row) (sym target.is) (reflex_gives target.reading target.closed target.short spec target.condition row g.0.0 (g.1 ∙ ap solved_goal target.is)) )
+  follows_from (step.Reflex k) g = (
+    open_goal t g.0.0,
+    g.0.1,
+    subst (λ (z : TermTree). ReflexGives (open_goal z g.0.0) row) (sym target.is) (reflex_gives target.reading target.closed target.short spec target.condition row g.0.0 (g.1 ∙ ap solved_goal target.is)),
+  )
 
   reflects : (parent : Row) → HasShape t parent → ReflexGives parent row → IsOpen t parent × (bare_row row ≡ solved_goal t)
-  reflects parent (inl o) g =
-      ( o
-      , reflex_only target.reading target.closed target.short spec target.condition row o.0 (subst (λ (z : Row). ReflexGives z row) (o.1 ∙ ap (λ (z : TermTree). open_goal z o.0) target.is) g) ∙ ap solved_goal (sym target.is) )
+  reflects parent (inl o) g = (
+    o,
+    reflex_only target.reading target.closed target.short spec target.condition row o.0 (subst (λ (z : Row). ReflexGives z row) (o.1 ∙ ap (λ (z : TermTree). open_goal z o.0) target.is) g) ∙ ap solved_goal (sym target.is),
+  )
   reflects parent (inr s) g = absurd (reflex_solved target.reading target.closed target.short spec target.condition row (subst (λ (z : Row). ReflexGives z row) (s ∙ ap solved_goal target.is) g))
 
   follows_to : (s : Step) → Follows spec before s row → StepGives t before s (bare_row row)

@@ -18,7 +18,9 @@ use Rattle.syn_app.specs.declared.readings.Step.TheVariants as step
 use Rattle.syn_app.specs.declared.readings.Entry.{Entry}
 use Rattle.syn_app.specs.declared.replay.CheckError.{CheckError}
 use Rattle.syn_app.specs.declared.replay.CheckError.TheVariants as error
-use Rattle.syn_app.specs.Rows.{simplified_row}
+use Rattle.syn_app.specs.declared.readings.RowReading.{RowReading}
+use Rattle.syn_app.specs.DerivationText.{row_tree}
+use Rattle.syn_app.specs.Rows.{bare_row, simplified_row}
 use Rattle.syn_app.specs.Replay.{row_at, simplified_rows}
 use Rattle.syn_app.specs.SpecText.{ensures_of}
 use Rattle.syn_app.specs.Terms.{term_tree, term_size, IsClosed, zero_id, succ_id, input_id}
@@ -129,3 +131,8 @@ abbrev pub FirstUnshaped : TermTree → List Entry → CheckError → Type 0
 FirstUnshaped t entries (error.NotFollows n) = IsFirstUnshaped t entries n
 FirstUnshaped t entries error.NotFinal = ⊥
 FirstUnshaped t entries error.NoMemory = Unit {0}
+
+-- the row of the reading, simplified, where its step gives it from the rows before, and none where it doesn't
+abbrev pub IsNextRow : TermTree → List Row → RowReading → Option Row → Type 0
+IsNextRow t before reading None = ¬ (StepGives t before reading.step (simplified_row (row_tree reading)))
+IsNextRow t before reading (Some row) = StepGives t before reading.step (simplified_row (row_tree reading)) × (bare_row row ≡ simplified_row (row_tree reading))

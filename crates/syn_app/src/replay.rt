@@ -2,14 +2,14 @@
 // T without variables, has rows of two shapes alone: variants of its goal, `?n = T | ?n`, and
 // `true | T`, which the reflection of such a goal gives. So the check of a row looks for these
 // shapes; the law in proofs/Steps.antt ties them to the rules.
-ghost use Rattle.std.specs.Prelude.{◌≡◌, ◌↔◌, ℕ, map, length, IsTrue, MatchOption, MatchResult};
+ghost use Rattle.std.specs.Prelude.{◌≡◌, ◌↔◌, ℕ, [], ◌∷◌, ◌++◌, map, length, IsTrue, IfOk, OnOk, MatchOption, MatchResult};
 ghost use Rattle.std.specs.Option.{option_copied};
 ghost use Rattle.syn_term.specs.Bank.{Belongs, Extends};
 ghost use Rattle.syn_term.specs.Terms.{bare};
 ghost use Rattle.syn_app.specs.DerivationText.{entry_of};
 ghost use Rattle.syn_app.specs.Replay.{row_at, simplified_rows};
 ghost use Rattle.syn_app.specs.Rows.{bare_form, bare_row};
-ghost use Rattle.syn_app.specs.Shapes.{AreShaped, FirstUnshaped, HasEquation, HasTexts, HaveShape, IsEquation, IsOpen, RowAgrees, StepGives, row_variable, solved_goal};
+ghost use Rattle.syn_app.specs.Shapes.{AreShaped, FirstUnshaped, HasEquation, HasTexts, HaveShape, IsEquation, IsNextRow, IsOpen, RowAgrees, StepGives, row_variable, solved_goal};
 
 use crate::readings::{Row, RowReading, Step};
 use crate::rows::{row_of, simplified};
@@ -45,10 +45,12 @@ fn row_variable_of(term: &Term) -> Option<u32>
     ensures { MatchOption result ((n : ℕ) → ¬ (bare term.now ≡ row_variable n)) (λ n. bare term.now ≡ row_variable n) }
 {
     match term.head() {
-        Head::Var(Var {
-            number,
-            sort: Sort::Nat,
-        }) => Some(number),
+        Head::Var(
+            Var {
+                number,
+                sort: Sort::Nat,
+            },
+        ) => Some(number),
         _ => None,
     }
 }
@@ -128,9 +130,47 @@ fn follows(target: &Term, before: &[Row], step: Step, row: &Row) -> bool
     }
 }
 
+/// The row of the reading, simplified; None exactly where it doesn't follow from those before it.
+#[tactic(auto, using(crate::proofs::Growth::growth))]
+fn next_row(
+    alloc: Global,
+    bank: &mut Bank,
+    syms: &Symbols,
+    target: &Term,
+    before: &[Row],
+    reading: &RowReading,
+) -> Result<Option<Row>, NoMemory>
+    requires table { HasTexts syms.now }
+    requires target { Belongs bank.old target.now }
+    requires shapes { HaveShape (bare target.now) (map bare_row before.now) }
+    ensures row { IfOk result (IsNextRow (bare target.now) (map bare_row before.now) reading.now) }
+    ensures extends { Extends bank.old bank.new }
+{
+    let row = row_of(alloc, bank, syms, reading)?;
+    let row = simplified(row);
+    if follows(target, before, reading.step, &row) {
+        Ok(Some(row))
+    } else {
+        Ok(None)
+    }
+}
+
+/// Puts the row at the end.
+fn keep(rows: &mut Vec<Row>, row: Row) -> Result<(), NoMemory>
+    ensures { OnOk result (rows.new.items ≡ rows.old.items ++ row ∷ []) }
+{
+    rows.push(row).map_err(|_| NoMemory)
+}
+
 /// The rows, simplified, each of which follows from those before it.
 #[tactic(auto, using(crate::proofs::Growth::growth))]
-fn replay(alloc: Global, bank: &mut Bank, syms: &Symbols, target: &Term, rows: &[RowReading]) -> Result<Vec<Row>, CheckError>
+fn replay(
+    alloc: Global,
+    bank: &mut Bank,
+    syms: &Symbols,
+    target: &Term,
+    rows: &[RowReading],
+) -> Result<Vec<Row>, CheckError>
     requires table { HasTexts syms.now }
     requires target { Belongs bank.old target.now }
     ensures rows { MatchResult result (λ kept. (map bare_row kept.items ≡ simplified_rows (map entry_of rows.now)) × AreShaped (bare target.now) (map entry_of rows.now) (length rows.now)) (FirstUnshaped (bare target.now) (map entry_of rows.now)) }
@@ -138,12 +178,9 @@ fn replay(alloc: Global, bank: &mut Bank, syms: &Symbols, target: &Term, rows: &
 {
     let mut kept = Vec::new(alloc);
     for i in 0..rows.len() {
-        let row = simplified(row_of(alloc, bank, syms, &rows[i])?);
-        if !follows(target, kept.as_slice(), rows[i].step, &row) {
-            return Err(CheckError::NotFollows(i as u64 + 1));
-        }
-        if kept.push(row).is_err() {
-            return Err(CheckError::NoMemory);
+        match next_row(alloc, bank, syms, target, kept.as_slice(), &rows[i])? {
+            None => return Err(CheckError::NotFollows(i as u64 + 1)),
+            Some(row) => keep(&mut kept, row)?,
         }
     }
     Ok(kept)

@@ -16,7 +16,9 @@ use syn_term::{Bank, NoMemory, Sort, SymId, Symbols, Term, Var};
 
 /// The symbols of a specification with one input, by their numbers.
 const ZERO: SymId = SymId(0);
+
 const SUCC: SymId = SymId(1);
+
 const INPUT: SymId = SymId(3);
 
 /// A symbol without arguments, of sort `nat`.
@@ -51,7 +53,13 @@ fn successor(alloc: Global, bank: &mut Bank, syms: &Symbols, term: Term) -> Resu
 
 /// So many successors of a term of sort `nat`.
 #[tactic(auto, using(crate::proofs::Growth::growth))]
-fn successors(alloc: Global, bank: &mut Bank, syms: &Symbols, count: u32, term: Term) -> Result<Term, NoMemory>
+fn successors(
+    alloc: Global,
+    bank: &mut Bank,
+    syms: &Symbols,
+    count: u32,
+    term: Term,
+) -> Result<Term, NoMemory>
     requires table { HasTexts syms.now }
     requires sort { sort_of syms.now term ≡ Some sorts.Nat }
     requires belongs { Belongs bank.old term }
@@ -94,7 +102,12 @@ fn base_term(alloc: Global, bank: &mut Bank, syms: &Symbols, base: Base) -> Resu
 
 /// The term of a reading.
 #[tactic(auto, using(crate::proofs::Growth::growth))]
-pub(crate) fn term_of(alloc: Global, bank: &mut Bank, syms: &Symbols, reading: TermReading) -> Result<Term, NoMemory>
+pub(crate) fn term_of(
+    alloc: Global,
+    bank: &mut Bank,
+    syms: &Symbols,
+    reading: TermReading,
+) -> Result<Term, NoMemory>
     requires table { HasTexts syms.now }
     ensures tree { IfOk result (λ t. bare t ≡ term_tree reading) }
     ensures extends { Extends bank.old bank.new }
@@ -106,7 +119,12 @@ pub(crate) fn term_of(alloc: Global, bank: &mut Bank, syms: &Symbols, reading: T
 
 /// The formula of a reading.
 #[tactic(auto, using(crate::proofs::Growth::growth))]
-fn form_of(alloc: Global, bank: &mut Bank, syms: &Symbols, reading: FormReading) -> Result<Form, NoMemory>
+fn form_of(
+    alloc: Global,
+    bank: &mut Bank,
+    syms: &Symbols,
+    reading: FormReading,
+) -> Result<Form, NoMemory>
     requires table { HasTexts syms.now }
     ensures tree { IfOk result (λ f. bare_form f ≡ form_tree reading) }
     ensures extends { Extends bank.old bank.new }
@@ -124,7 +142,12 @@ fn form_of(alloc: Global, bank: &mut Bank, syms: &Symbols, reading: FormReading)
 
 /// The row of a reading, as it is written.
 #[tactic(auto, using(crate::proofs::Growth::growth))]
-pub(crate) fn row_of(alloc: Global, bank: &mut Bank, syms: &Symbols, reading: &RowReading) -> Result<Row, NoMemory>
+pub(crate) fn row_of(
+    alloc: Global,
+    bank: &mut Bank,
+    syms: &Symbols,
+    reading: &RowReading,
+) -> Result<Row, NoMemory>
     requires table { HasTexts syms.now }
     ensures tree { IfOk result (λ row. bare_row row ≡ row_tree reading.now) }
     ensures extends { Extends bank.old bank.new }
