@@ -15,6 +15,7 @@ use Rattle.syn_model.specs.ProgramText.{Printed, printed_program, printed_term, 
 use Rattle.syn_app.specs.Printing.{nat_program, nat_program_symbols, printing_of}
 use Rattle.syn_app.proofs.PrintedText.{printing-App, printing-Var}
 
+-- a variable and a symbol with arguments, their places left out
 bare-Var : (p : Place) (v : Var) → bare (node.Var p v) ≡ variable_tree v
 unfolding roll-Node roll
 bare-Var p v = fold-roll-Node Node bare_step (Node-F.Var p v)
@@ -24,16 +25,20 @@ unfolding roll-Node roll
 bare-App p f args = fold-roll-Node Node bare_step (Node-F.App p f args)
 
 module _ (table : SymbolTable) where
+  -- the tree with its places left out prints the same
   abbrev IsSame : Node → Type 0
   IsSame t = printing_of table (bare t) ≡ printing_of table t
 
+  -- a child of which this is known
   abbrev Child : Type 0
   Child = (t : Node) × IsSame t
 
+  -- each child printed the same, so all of them in their order
   children_same : (cs : List Child) → map (printing_of table) (map bare (map (λ c. c.0) cs)) ≡ map (printing_of table) (map (λ c. c.0) cs)
   children_same [] = refl
   children_same (c ∷ cs) = ap (λ (q : Printed). q ∷ map (printing_of table) (map bare (map (λ c. c.0) cs))) c.1 ∙ ap (λ (z : List Printed). printing_of table c.0 ∷ z) (children_same cs)
 
+  -- a variable prints the same, and so does a symbol whose arguments do
   variable_same : (p : Place) (v : Var) → IsSame (node.Var p v)
   variable_same p v = ap (printing_of table) (bare-Var p v) ∙ (printing-Var table nowhere v ∙ sym (printing-Var table p v))
 
@@ -49,9 +54,11 @@ module _ (table : SymbolTable) where
   printing_bare : (t : Node) → IsSame t
   printing_bare = ind-Node IsSame (λ x y is. subst (λ (z : Node-F Node). IsSame (roll-Node z)) is (node_same y))
 
+  -- the text is that of the tree with its places left out
   pub printed_bare : (t : Node) → printed_term table (bare t) ≡ printed_term table t
   printed_bare t = ap (λ (q : Printed). q.text) (printing_bare t)
 
+-- the pieces that are put, grouped as in the definition
 regroup_pieces : (a n b i c d e f g t h : List ℕ) → a ++ n ++ b ++ i ++ (c ++ (d ++ (e ++ (f ++ g)))) ++ t ++ h ≡ a ++ n ++ b ++ (i ++ c ++ d) ++ e ++ f ++ g ++ t ++ h
 regroup_pieces a n b i c d e f g t h = simp append_assoc refl
 

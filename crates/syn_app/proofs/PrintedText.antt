@@ -17,6 +17,7 @@ use Rattle.syn_term.specs.Symbols.{SymbolTable, symbol_at}
 use Rattle.syn_model.specs.ProgramText.{Printed, print_step, symbol_printed, symbol_text, successor_text, number_text, applied_text, name_of, joined, texts_of, printed_term}
 use Rattle.syn_app.specs.Printing.{printing_of}
 
+-- the text and number at a symbol with arguments, and at a variable
 pub printing-App : (table : SymbolTable) (p : Place) (f : SymId) (args : List Node) → printing_of table (view.App p f args) ≡ symbol_printed (symbol_at table f) (map (printing_of table) args)
 unfolding roll-Node roll
 printing-App table p f args = fold-roll-Node Printed (print_step table) (Node-F.App p f args)
@@ -25,6 +26,7 @@ pub printing-Var : (table : SymbolTable) (p : Place) (v : Var) → printing_of t
 unfolding roll-Node roll
 printing-Var table p v = fold-roll-Node Printed (print_step table) (Node-F.Var p v)
 
+-- what is no number was printed as a symbol with arguments: for a successor, for a symbol of each kind, for any symbol
 plain_successor : (name : List ℕ) (p : Printed) (n : Option ℕ) → (successor_text name p n).number ≡ None → successor_text name p n ≡ applied_text name (p ∷ [])
 plain_successor name p None h = refl
 plain_successor name p (Some n) h =
@@ -41,7 +43,6 @@ plain_kind kind.Succ name (p ∷ []) h = plain_successor name p p.number h
 plain_kind kind.Succ name (p ∷ q ∷ ps) h = refl
 plain_kind _ name ps h = refl
 
--- a text that is no number is the symbol's name with the arguments
 pub plain_symbol : (s : Option Sym) (ps : List Printed) → (symbol_printed s ps).number ≡ None → symbol_printed s ps ≡ applied_text (name_of s) ps
 plain_symbol None ps h = refl
 plain_symbol (Some s) ps h = plain_kind s.kind s.name ps h
@@ -61,12 +62,14 @@ unfolding gap
 gap_is between [] i e = grind (arith, nat_tests)
 gap_is between (t ∷ ts) i e = grind (arith, nat_tests)
 
+-- one text more
 joined-append : (between : List ℕ) (ts : List (List ℕ)) (t : List ℕ) → joined between (ts ++ t ∷ []) ≡ joined between ts ++ (gap between ts ++ t)
 unfolding gap
 joined-append between [] t = refl
 joined-append between (s ∷ []) t = append_assoc s between t
 joined-append between (s ∷ u ∷ more) t = ap (λ (z : List ℕ). s ++ between ++ z) (joined-append between (u ∷ more) t) ∙ simp append_assoc refl
 
+-- the texts of some printed terms and one more, and how many there are
 texts-append : (ps : List Printed) (p : Printed) → texts_of (ps ++ p ∷ []) ≡ texts_of ps ++ p.text ∷ []
 texts-append [] p = refl
 texts-append (q ∷ ps) p = ap (λ (z : List (List ℕ)). q.text ∷ z) (texts-append ps p)
@@ -75,6 +78,7 @@ length-texts : (ps : List Printed) → length (texts_of ps) ≡ length ps
 length-texts [] = refl
 length-texts (p ∷ ps) = let e = length-texts ps in grind arith
 
+-- pieces put one after another, grouped as in the definition
 regroup : (a b c d : List ℕ) → a ++ b ++ c ++ d ≡ a ++ (b ++ (c ++ d))
 regroup a b c d = simp append_assoc refl
 
@@ -88,9 +92,11 @@ variable_put table t p v old mid new is put_mark put_text =
     put_text ∙ (ap (λ (z : List ℕ). z ++ decimal v.number) put_mark ∙ (append_assoc old (codes "?") (decimal v.number) ∙ ap (λ (z : List ℕ). old ++ z) (sym e)))
 
 module _ (table : SymbolTable) where
+  -- the texts of the arguments, with a comma and a space between
   abbrev pub arguments_text : List Node → List ℕ
   arguments_text xs = joined (codes ", ") (texts_of (map (printing_of table) xs))
 
+  -- one argument more at the end
   arguments_append : (xs : List Node) (x : Node) → arguments_text (xs ++ x ∷ []) ≡ arguments_text xs ++ (gap (codes ", ") (texts_of (map (printing_of table) xs)) ++ printed_term table x)
   arguments_append xs x =
       let texts : texts_of (map (printing_of table) (xs ++ x ∷ [])) ≡ texts_of (map (printing_of table) xs) ++ printed_term table x ∷ [] = ap texts_of (map-append (printing_of table) xs (x ∷ [])) ∙ texts-append (map (printing_of table) xs) (printing_of table x) in

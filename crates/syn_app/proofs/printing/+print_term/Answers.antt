@@ -1,3 +1,4 @@
+-- What was put piece by piece is the text of the node that was matched.
 use Rattle.std.proofs.Common.{◌<◌, length, sym, ◌∙◌, ap, List, ℕ, ◌++◌, string_bytes, arith}
 use Rattle.std.proofs.lemmas.Bool.Decides.{nat_tests}
 use Rattle.std.proofs.lemmas.Result.{IfOk-weaker}

@@ -1,3 +1,4 @@
+-- The pieces, one after another, are the printed program.
 use Rattle.syn_app.proofs.PrintedBare.{program_put}
 use Rattle.syn_app.proofs.printing.print_program.Goals as goal
 
