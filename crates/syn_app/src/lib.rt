@@ -2,6 +2,8 @@
 //! and a sink.
 #![tactic(auto)]
 
+mod lines;
+mod numbers;
 mod readings;
 
 pub use readings::{Base, Entry, FormReading, Row, RowReading, Step, TermReading};
