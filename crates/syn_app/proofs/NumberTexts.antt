@@ -1,5 +1,5 @@
 -- Which words are the digits of a number.
-use Rattle.std.proofs.Common.{◌≡◌, ℕ, ◌<◌, ◌^◌, List, Result, Ok, Err, decimal, sym, ◌∙◌, subst, arith}
+use Rattle.std.proofs.Common.{◌≡◌, ℕ, ◌<◌, ◌≤◌, ◌^◌, List, Result, Ok, Err, decimal, sym, ◌∙◌, subst, arith}
 use Rattle.std.specs.Str.{IsUtf8}
 use Rattle.std.specs.Str.Parse.{ParsesUnsigned}
 use Rattle.std.proofs.lemmas.Str.{IsUtf8-from_ascii}
@@ -16,3 +16,8 @@ not_read bs text r e h failed same n low is = let read : r ≡ Ok n = parse-deci
 -- what is read is the digits of no other number
 pub read_only : {E : Type 0} (bs text : List ℕ) (r : Result ℕ E) (m : ℕ) → ParsesUnsigned 32 10 text r → r ≡ Ok m → text ≡ bs → (n : ℕ) → n < 2 ^ 32 → bs ≡ decimal n → n ≡ m
 read_only bs text r m h was same n low is = let read : r ≡ Ok n = parse-decimal 32 n text r low (omega arith) (same ∙ is) h in cc
+
+-- a number out of the bounds is no other within them
+pub outside : (bs : List ℕ) (m least most : ℕ) → most < 10 ^ 7 → m < 10 ^ 7 → bs ≡ decimal m → (least ≤ m → m ≤ most → ⊥) → (n : ℕ) → least ≤ n → n ≤ most → bs ≡ decimal n → ⊥
+outside bs m least most low small is out n lo hi e =
+    let same : m ≡ n = decimal_injective m n (omega arith) (omega arith) (sym is ∙ e) in out (omega arith) (omega arith)

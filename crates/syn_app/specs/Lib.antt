@@ -4,3 +4,4 @@ pub mod Terms
 pub mod TheoryText
 pub mod SpecText
 pub mod DerivationText
+pub mod Readers

@@ -5,5 +5,6 @@
 mod lines;
 mod numbers;
 mod readings;
+mod terms;
 
 pub use readings::{Base, Entry, FormReading, Row, RowReading, Step, TermReading};

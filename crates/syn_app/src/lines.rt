@@ -1,7 +1,7 @@
 // Files as lines, and lines as parts: every text is taken apart by a byte that ends a part or by a
 // prefix that is known, so a part is a slice of the file and no memory is taken for it. Each helper
 // says exactly when there is no such part, from which a reader knows that no other reading exists.
-ghost use Rattle.std.specs.Prelude.{◌≡◌, ◌++◌, ◌∷◌, [], List, ℕ, MatchOption, IfOk, map, slice_index_or};
+ghost use Rattle.std.specs.Prelude.{◌≡◌, ◌++◌, ◌∷◌, [], ◌↔◌, List, ℕ, IsTrue, MatchOption, IfOk, map, slice_index_or};
 ghost use Rattle.syn_app.specs.Lines.{IsCut, Without};
 
 use std::alloc::{AllocError, AllocFailed, Global};
@@ -39,6 +39,12 @@ pub(crate) fn strip<'a>(text: &'a [u8], prefix: &[u8]) -> Option<&'a [u8]>
     ensures { MatchOption result ((rest : List ℕ) → ¬ (text.now ≡ prefix.now ++ rest)) (λ rest. text.now ≡ prefix.now ++ rest.now) }
 {
     text.strip_prefix(prefix)
+}
+
+pub(crate) fn same(left: &[u8], right: &[u8]) -> bool
+    ensures { IsTrue result ↔ (left.now ≡ right.now) }
+{
+    left == right
 }
 
 fn push<'a>(lines: &mut Vec<&'a [u8]>, line: &'a [u8]) -> Result<(), FileError>

@@ -1,6 +1,6 @@
 // Numbers and names as words. A number is printed again and compared with the word, so no sign and
 // no zero before it is let through.
-ghost use Rattle.std.specs.Prelude.{◌≡◌, ◌<◌, ◌^◌, ◌↔◌, ℕ, IsTrue, MatchOption, decimal};
+ghost use Rattle.std.specs.Prelude.{◌≡◌, ◌<◌, ◌≤◌, ◌^◌, ◌↔◌, ℕ, IsTrue, MatchOption, decimal};
 ghost use Rattle.syn_term.specs.Names.{IsName};
 
 use itoa::Buffer;
@@ -37,6 +37,23 @@ pub(crate) fn number_in(word: &[u8]) -> Option<u32>
         None => None,
         Some(number) => {
             if number < NUMBER_END && is_written(number, word) {
+                Some(number)
+            } else {
+                None
+            }
+        }
+    }
+}
+
+/// The number whose digits the word is, within the bounds, or `None` where it is no such number.
+pub(crate) fn number_between(word: &[u8], least: u32, most: u32) -> Option<u32>
+    requires { most < 10 ^ 7 }
+    ensures { MatchOption result ((n : ℕ) → least ≤ n → n ≤ most → ¬ (word.now ≡ decimal n)) (λ n. (least ≤ n) × (n ≤ most) × (word.now ≡ decimal n)) }
+{
+    match number_in(word) {
+        None => None,
+        Some(number) => {
+            if least <= number && number <= most {
                 Some(number)
             } else {
                 None
