@@ -5,3 +5,6 @@ pub mod TheoryText
 pub mod SpecText
 pub mod DerivationText
 pub mod Readers
+pub mod Rows
+pub mod Replay
+pub mod Shapes

@@ -8,7 +8,7 @@ use Rattle.syn_term.specs.declared.sorts.Kind.{Kind}
 use Rattle.syn_term.specs.declared.sorts.Kind.TheVariants as kind
 use Rattle.syn_term.specs.declared.term.Node.{fold-Node}
 use Rattle.syn_term.specs.declared.term.Node.TheOpen.{Node-F}
-use Rattle.syn_term.specs.Tables.{SymbolTable, symbol_at}
+use Rattle.syn_term.specs.Symbols.{SymbolTable, symbol_at}
 use Rattle.syn_term.specs.Terms.{TermTree}
 use Rattle.syn_model.specs.declared.trees.Value.{Value}
 use Rattle.syn_model.specs.declared.trees.Value.TheVariants.{Num}

@@ -4,3 +4,4 @@ pub mod Evaluation
 pub mod Truth
 pub mod Correctness
 pub mod ProgramText
+pub mod Primitive

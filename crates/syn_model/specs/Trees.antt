@@ -3,7 +3,7 @@ use Rattle.std.specs.Prelude.{ℕ, ◌+◌, List, [], ◌∷◌, ◌++◌, Some,
 use Rattle.syn_term.specs.declared.sorts.Sort.{Sort}
 use Rattle.syn_term.specs.declared.sorts.Sym.{Sym}
 use Rattle.syn_term.specs.declared.sorts.Kind.TheVariants as kind
-use Rattle.syn_term.specs.Tables.{SymbolTable, first_symbols}
+use Rattle.syn_term.specs.Symbols.{SymbolTable, first_symbols}
 use Rattle.syn_model.specs.declared.trees.Form.{Form}
 use Rattle.syn_model.specs.declared.trees.Out.{Out}
 

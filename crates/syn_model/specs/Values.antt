@@ -2,7 +2,7 @@
 use Rattle.std.specs.Prelude.{ℕ, Bool, List, [], ◌∷◌, nat_eq}
 use Rattle.syn_term.specs.declared.sorts.Sort.{Sort}
 use Rattle.syn_term.specs.declared.sorts.Sort.TheVariants as sort
-use Rattle.syn_term.specs.Tables.{SymbolTable}
+use Rattle.syn_term.specs.Symbols.{SymbolTable}
 use Rattle.syn_model.specs.declared.trees.Value.{Value}
 use Rattle.syn_model.specs.declared.trees.Value.TheVariants.{Num}
 

@@ -1,3 +1,9 @@
 pub mod Trees
+pub mod Same
 pub mod Banks
 pub mod Lists
+pub mod NameLaws
+pub mod NumberLemmas
+pub mod SkolemLemmas
+pub mod SymbolLaws
+pub mod KeyLemmas

@@ -1,11 +1,11 @@
 -- The equations of the functions of trees at a variable and at a symbol with arguments.
-use Rattle.std.proofs.Common.{◌≡◌, ℕ, suc, ◌+◌, ◌-◌, ◌≤◌, ◌<◌, min, max, sum, List, [], ◌∷◌, map, length, ◌++◌, take, get_or, refl, sym, ◌∙◌, ap, arith, rules, IsTrue, Bool, true, false, not, nat_eq}
+use Rattle.std.proofs.Common.{◌≡◌, ℕ, suc, ◌+◌, ◌-◌, ◌≤◌, ◌<◌, min, max, sum, List, [], ◌∷◌, map, length, ◌++◌, take, get_or, refl, sym, ◌∙◌, ap, subst, arith, rules, IsTrue, Bool, true, false, not, nat_eq}
 use Rattle.std.proofs.lemmas.Bool.Decides.{nat_tests}
 use Rattle.std.specs.List.{sum_by}
 use Rattle.syn_term.specs.declared.sorts.SymId.{SymId}
 use Rattle.syn_term.specs.declared.sorts.Var.{Var}
 use Rattle.syn_term.specs.declared.term.Place.{Place}
-use Rattle.syn_term.specs.declared.term.Node.{Node, out-Node, roll-Node, fold-Node, fold-roll-Node}
+use Rattle.syn_term.specs.declared.term.Node.{Node, out-Node, roll-Node, map-Node, fold-Node, fold-roll-Node, ind-Node}
 use Rattle.syn_term.specs.declared.term.Node.TheOpen.{Node-F}
 use Rattle.syn_term.specs.declared.term.Node.TheVariants as node
 use Rattle.syn_term.specs.declared.term.Node.TheViews as view
@@ -84,3 +84,44 @@ module _ (t u t' u' : Node) (p q : Place) (f g : SymId) (xs ys vs ws : List Node
     (λ e. bare_from_args t u p q f g xs ys (sym same_t ∙ is_t) (sym same_u ∙ is_u) same (ap (map bare) (sym is_vs) ∙ (args ∙ ap (map bare) is_ws))),
     (λ e. refl),
   )
+
+module _ {A : Type 0} (step : Node-F A → A) where
+  -- what a fold gives at a symbol with arguments, and at a variable
+  pub fold-App : (p : Place) (f : SymId) (args : List Node) → fold-Node A step (view.App p f args) ≡ step (Node-F.App p f (map (fold-Node A step) args))
+  unfolding roll-Node roll
+  fold-App p f args = fold-roll-Node A step (Node-F.App p f args)
+
+  pub fold-Var : (p : Place) (v : Var) → fold-Node A step (node.Var p v) ≡ step (Node-F.Var p v)
+  unfolding roll-Node roll
+  fold-Var p v = fold-roll-Node A step (Node-F.Var p v)
+
+-- a tree with what holds of it
+abbrev With : (Node → Type 0) → Type 0
+With P = (t : Node) × P t
+
+abbrev tree_of : (P : Node → Type 0) → With P → Node
+tree_of P e = e.0
+
+-- what holds of each node whose arguments it holds of, holds of all trees
+pub by_terms : (P : Node → Type 0) → ((y : Node-F (With P)) → P (roll-Node (map-Node (With P) Node (tree_of P) y))) → (t : Node) → P t
+by_terms P step = ind-Node P (λ x y is. subst (λ (z : Node-F Node). P (roll-Node z)) is (step y))
+
+module _ {A : Type 0} (step : Node-F A → A) (var : (p : Place) (v : Var) → step (Node-F.Var p v) ≡ step (Node-F.Var nowhere v)) (app : (p : Place) (f : SymId) (xs : List A) → step (Node-F.App p f xs) ≡ step (Node-F.App nowhere f xs)) where
+  abbrev SameBare : Node → Type 0
+  SameBare t = fold-Node A step (bare t) ≡ fold-Node A step t
+
+  args_bare : (xs : List (With SameBare)) → map (fold-Node A step) (map bare (map (tree_of SameBare) xs)) ≡ map (fold-Node A step) (map (tree_of SameBare) xs)
+  args_bare [] = refl
+  args_bare (x ∷ xs) = let e = x.1 in let h = args_bare xs in cc
+
+  node_bare : (y : Node-F (With SameBare)) → SameBare (roll-Node (map-Node (With SameBare) Node (tree_of SameBare) y))
+  unfolding roll-Node roll
+  node_bare (Node-F.Var p v) =
+      ap (fold-Node A step) (fold-roll-Node Node bare_step (Node-F.Var p v)) ∙ (fold-roll-Node A step (Node-F.Var nowhere v) ∙ (sym (var p v) ∙ sym (fold-roll-Node A step (Node-F.Var p v))))
+  node_bare (Node-F.App p f args) =
+      let xs = map (tree_of SameBare) args in
+      ap (fold-Node A step) (fold-roll-Node Node bare_step (Node-F.App p f xs)) ∙ (fold-roll-Node A step (Node-F.App nowhere f (map bare xs)) ∙ (ap (λ (z : List A). step (Node-F.App nowhere f z)) (args_bare args) ∙ (sym (app p f (map (fold-Node A step) xs)) ∙ sym (fold-roll-Node A step (Node-F.App p f xs)))))
+
+  -- a fold that doesn't look at places gives the same for the tree without them
+  pub fold-bare : (t : Node) → fold-Node A step (bare t) ≡ fold-Node A step t
+  fold-bare = by_terms SameBare node_bare

@@ -14,7 +14,7 @@ use Rattle.syn_term.specs.declared.term.Node.{Node, out-Node, fold-Node}
 use Rattle.syn_term.specs.declared.term.Node.TheOpen.{Node-F}
 use Rattle.syn_term.specs.declared.term.Node.TheVariants as node
 use Rattle.syn_term.specs.declared.term.Node.TheViews as view
-use Rattle.syn_term.specs.Tables.{SymbolTable, symbol_at}
+use Rattle.syn_term.specs.Symbols.{SymbolTable, symbol_at}
 
 -- a term is the tree of its nodes
 abbrev pub TermTree : Type 0

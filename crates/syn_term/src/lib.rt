@@ -13,7 +13,7 @@ mod text;
 
 pub use bank::Bank;
 pub use memory::NoMemory;
-pub use names::is_name;
+pub use names::{is_name, is_skolem_name};
 pub use pointer::Shared;
 pub use sorts::{Head, Kind, NamedSort, Shape, Sort, Sym, SymId, Var};
 pub use symbols::Symbols;

@@ -1,10 +1,139 @@
-// stub until merge
-ghost use Rattle.std.specs.Prelude.{◌↔◌, IsTrue};
-ghost use Rattle.syn_term.specs.Names.{IsName};
+// Which texts are names. A name is told by its characters, one after another, so each test is exact;
+// the name of a Skolem symbol begins with `!`, which no name does, so the two kinds never meet.
+ghost use Rattle.std.specs.Prelude.{◌≡◌, ◌↔◌, ◌<◌, ◌^◌, ℕ, IsTrue, MatchOption, Contains, decimal};
+ghost use Rattle.std.specs.Str.{bytes_eq, chars};
+ghost use Rattle.std.specs.List.{list_all, list_any};
+ghost use Rattle.unicode_ident.specs.Ident.{is_xid_continue};
+ghost use Rattle.syn_term.specs.Names.{reserved, Starts, IsName, IsTag, IsNumber, IsSkolemName};
 
+use itoa::Buffer;
+use unicode_ident::{is_xid_continue, is_xid_start};
+
+const MAX_NAME_BYTES: usize = 64;
+
+const NUMBER_END: u32 = 10_000_000;
+
+const RESERVED: [&str; 15] = [
+    "nat", "s", "true", "false", "not", "and", "or", "if", "then", "else", "all", "some", "goal",
+    "input", "induct",
+];
+
+fn finds_reserved(text: &str) -> bool
+    ensures { result ≡ list_any (λ word. bytes_eq word text.now) reserved }
+{
+    RESERVED.contains(&text)
+}
+
+fn is_reserved(text: &str) -> bool
+    ensures { IsTrue result ↔ Contains reserved text.now }
+{
+    finds_reserved(text)
+}
+
+fn starts(text: &str) -> bool
+    ensures { IsTrue result ↔ Starts (chars text.now) }
+{
+    match text.chars().next() {
+        None => false,
+        Some(first) => is_xid_start(first),
+    }
+}
+
+// What may start a name may also continue one, so the test of the others may take in the first.
+fn continues(text: &str) -> bool
+    ensures { result ≡ list_all is_xid_continue (chars text.now) }
+{
+    text.chars().all(|c| is_xid_continue(c))
+}
+
+/// Whether the text is a name: a character with the property XID_Start, then characters with
+/// XID_Continue, at most 64 bytes in all, and no reserved word.
 pub fn is_name(text: &str) -> bool
     ensures { IsTrue result ↔ IsName text.now }
 {
-    let _ = text;
-    true
+    text.len() <= MAX_NAME_BYTES && !is_reserved(text) && starts(text) && continues(text)
+}
+
+fn is_tag(text: &str) -> bool
+    ensures { IsTrue result ↔ IsTag text.now }
+{
+    text == "goal" || text == "induct" || is_name(text)
+}
+
+fn is_written(number: u32, text: &str) -> bool
+    ensures { IsTrue result ↔ (text.now ≡ decimal number) }
+{
+    let mut buffer = Buffer::new();
+    buffer.format(number) == text
+}
+
+// Reading takes a plus sign and zeros before a number, so what is read is printed again and compared.
+fn number_of(text: &str) -> Option<u32>
+    ensures { MatchOption result ((n : ℕ) → n < 2 ^ 32 → ¬ (text.now ≡ decimal n)) (λ n. (n < 2 ^ 32) × (text.now ≡ decimal n)) }
+{
+    match text.parse::<u32>() {
+        Err(_) => None,
+        Ok(number) => {
+            if is_written(number, text) {
+                Some(number)
+            } else {
+                None
+            }
+        }
+    }
+}
+
+fn is_number(text: &str) -> bool
+    ensures { IsTrue result ↔ IsNumber text.now }
+{
+    match number_of(text) {
+        None => false,
+        Some(number) => 0 < number && number < NUMBER_END,
+    }
+}
+
+/// Whether the text is the name of a Skolem symbol: `!`, a tag, `.` and a number from 1 of at most
+/// seven digits with no zero before them. A tag is `goal`, `induct` or a name.
+pub fn is_skolem_name(text: &str) -> bool
+    ensures { IsTrue result ↔ IsSkolemName text.now }
+{
+    match text.strip_prefix('!') {
+        None => false,
+        Some(rest) => match rest.split_once('.') {
+            None => false,
+            Some((tag, number)) => is_tag(tag) && is_number(number),
+        },
+    }
+}
+
+#[cfg(test)]
+mod tests {
+    use super::*;
+
+    #[test]
+    fn tells_names(rt: HostRuntime) {
+        let longest = "a23456789_123456789_123456789_123456789_123456789_123456789_1234";
+        let too_long = "a23456789_123456789_123456789_123456789_123456789_123456789_12345";
+        assert_eq!(rt; longest.len(), 64);
+        for name in ["λόγος", "間隙", "a_1", longest, "nats"] {
+            assert!(rt; is_name(name), "{name}");
+        }
+        for text in ["", "_a", "\u{301}a", "1a", "a.b", "nat", "induct", too_long] {
+            assert!(rt; !is_name(text), "{text}");
+        }
+        for name in ["!gap.1", "!induct.2", "!goal.9999999", "!λ.10"] {
+            assert!(rt; is_skolem_name(name), "{name}");
+        }
+        for text in [
+            "!gap.0",
+            "!gap.01",
+            "!gap.",
+            "gap.1",
+            "!gap.10000000",
+            "!nat.1",
+            "!gap.+1",
+        ] {
+            assert!(rt; !is_skolem_name(text), "{text}");
+        }
+    }
 }
