@@ -5,12 +5,6 @@ use Rattle.std.proofs.lemmas.List.{take_more, take-append-drop, drop_more, appen
 use Rattle.std.proofs.lemmas.List.Elements.{All-from_get_or, All-head, All-tail, All-cons, All-nil, All-append, All-push}
 use Rattle.syn_app.specs.Lines.{IsCut, IsWords, Without, with_feed, in_words}
 
--- a text with the mark at i, and not before, is cut there
-pub cut_here : (text : List ℕ) (mark i : ℕ) → i < length text → get_or text i 0 ≡ mark → take i text ++ mark ∷ drop (i + 1) text ≡ text
-cut_here text mark i lt is =
-    let e : drop i text ≡ mark ∷ drop (i + 1) text = drop_more text i 0 lt ∙ ap (λ (b : ℕ). b ∷ drop (i + 1) text) is in
-    ap (λ (r : List ℕ). take i text ++ r) (sym e) ∙ take-append-drop i text
-
 -- a text with the mark is not one without
 pub no_mark : (xs r : List ℕ) (b : ℕ) → All (λ c. c ≡ b → ⊥) (xs ++ b ∷ r) → ⊥
 no_mark [] r b h = All-head (λ c. c ≡ b → ⊥) b r h refl
@@ -27,13 +21,13 @@ cut_same (x ∷ xs) (y ∷ ys) r s b hx hy e =
     let p = cut_same xs ys r s b (All-tail (λ c. c ≡ b → ⊥) x xs hx) (All-tail (λ c. c ≡ b → ⊥) y ys hy) t in
     let q : xs ≡ ys = p.0 in (cc, p.1)
 
--- one line more
-pub cut_more : (bytes rest line after : List ℕ) (lines : List (List ℕ)) → flat_map with_feed lines ++ rest ≡ bytes → rest ≡ line ++ 10 ∷ after → flat_map with_feed (lines ++ line ∷ []) ++ after ≡ bytes
-cut_more bytes rest line after [] is cut = append_assoc (with_feed line) [] after ∙ (append_assoc line (10 ∷ []) after ∙ (sym cut ∙ is))
-cut_more bytes rest line after (l ∷ ls) is cut =
-    let e = cut_more (flat_map with_feed ls ++ rest) rest line after ls refl cut in
-    append_assoc (with_feed l) (flat_map with_feed (ls ++ line ∷ [])) after
-    ∙ (ap (λ (r : List ℕ). with_feed l ++ r) e ∙ (sym (append_assoc (with_feed l) (flat_map with_feed ls) rest) ∙ is))
+-- no such part, where the text has no such byte
+pub no_part : (text others : List ℕ) (mark : ℕ) → Without mark text → (part rest : List ℕ) → Without mark part → text ≡ part ++ mark ∷ (others ++ rest) → ⊥
+no_part text others mark none part rest clean e = no_mark part (others ++ rest) mark (subst (Without mark) e none)
+
+-- nor where what follows it is something else
+pub no_rest : (text part after others : List ℕ) (mark : ℕ) → Without mark part → text ≡ part ++ mark ∷ after → ((rest : List ℕ) → after ≡ others ++ rest → ⊥) → (p rest : List ℕ) → Without mark p → text ≡ p ++ mark ∷ (others ++ rest) → ⊥
+no_rest text part after others mark clean is none p rest h e = none rest (cut_same part p after (others ++ rest) mark clean h (sym is ∙ e)).1
 
 lines_once : (ls ms : List (List ℕ)) (r q : List ℕ) → All (Without 10) ls → All (Without 10) ms → Without 10 r → Without 10 q → flat_map with_feed ls ++ r ≡ flat_map with_feed ms ++ q → (ls ≡ ms) × (r ≡ q)
 lines_once [] [] r q hl hm hr hq e = (refl, e)

@@ -187,11 +187,11 @@ leaf_nodes f = nodes-App nowhere f []
 leaf_depth : (f : SymId) → depth_of (application f []) ≡ 1
 leaf_depth f = depth_of-App nowhere f []
 
-variable_nodes : (v : Var) → nodes (variable_tree v) ≡ 1
+pub variable_nodes : (v : Var) → nodes (variable_tree v) ≡ 1
 unfolding roll-Node roll
 variable_nodes v = fold-roll-Node ℕ nodes_step (Node-F.Var nowhere v)
 
-variable_depth : (v : Var) → depth_of (variable_tree v) ≡ 1
+pub variable_depth : (v : Var) → depth_of (variable_tree v) ≡ 1
 unfolding roll-Node roll
 variable_depth v = fold-roll-Node ℕ depth_step (Node-F.Var nowhere v)
 
@@ -211,3 +211,11 @@ term_nodes r = let e = successors_nodes r.successors (base_tree r.base) in let h
 
 pub term_depth : (r : TermReading) → depth_of (term_tree r) ≡ term_size r
 term_depth r = let e = successors_depth r.successors (base_tree r.base) in let h = base_depth r.base in omega arith
+
+base_some : (b : Base) → 0 < base_size b
+base_some base.Input = omega arith
+base_some (base.Number n) = omega arith
+base_some (base.RowVariable n) = omega arith
+
+pub term_some : (r : TermReading) → 0 < term_size r
+term_some r = let h = base_some r.base in omega arith

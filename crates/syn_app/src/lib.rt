@@ -5,6 +5,8 @@
 mod lines;
 mod numbers;
 mod readings;
+mod spec_text;
 mod terms;
+mod theory_text;
 
 pub use readings::{Base, Entry, FormReading, Row, RowReading, Step, TermReading};

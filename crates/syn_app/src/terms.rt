@@ -14,6 +14,12 @@ use crate::lines::{same, strip};
 use crate::numbers::number_between;
 use crate::readings::{Base, TermReading};
 
+/// The nodes that an expression, or a row, may have.
+pub(crate) const MOST_NODES: u64 = 4096;
+
+/// How deep an expression, or a row, may be.
+pub(crate) const MOST_DEPTH: u64 = 1200;
+
 /// As many successors as an expression may have nodes; a word with more is no term of a line.
 const MOST_SUCCESSORS: u32 = 4096;
 
@@ -90,6 +96,7 @@ fn base_size(base: &Base) -> u64
 pub(crate) fn size_of(term: &TermReading) -> u64
     ensures nodes { result ≡ nodes (term_tree term.now) }
     ensures depth { result ≡ depth_of (term_tree term.now) }
+    ensures bound { result < 2 ^ 34 }
 {
     term.successors as u64 + base_size(&term.base)
 }
