@@ -5,3 +5,4 @@ pub mod Closed
 pub mod Steps
 pub mod Correct
 pub mod SpecTexts
+pub mod RowTexts

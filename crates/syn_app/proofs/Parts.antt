@@ -29,6 +29,11 @@ no_part text others mark none part rest clean e = no_mark part (others ++ rest) 
 pub no_rest : (text part after others : List ℕ) (mark : ℕ) → Without mark part → text ≡ part ++ mark ∷ after → ((rest : List ℕ) → after ≡ others ++ rest → ⊥) → (p rest : List ℕ) → Without mark p → text ≡ p ++ mark ∷ (others ++ rest) → ⊥
 no_rest text part after others mark clean is none p rest h e = none rest (cut_same part p after (others ++ rest) mark clean h (sym is ∙ e)).1
 
+-- such a part is one alone
+pub part_once : (text others p q r s : List ℕ) (mark : ℕ) → Without mark p → Without mark q → text ≡ p ++ mark ∷ (others ++ r) → text ≡ q ++ mark ∷ (others ++ s) → (p ≡ q) × (r ≡ s)
+part_once text others p q r s mark hp hq ep eq =
+    let t = cut_same p q (others ++ r) (others ++ s) mark hp hq (sym ep ∙ eq) in (t.0, append_cancel_left others r s t.1)
+
 lines_once : (ls ms : List (List ℕ)) (r q : List ℕ) → All (Without 10) ls → All (Without 10) ms → Without 10 r → Without 10 q → flat_map with_feed ls ++ r ≡ flat_map with_feed ms ++ q → (ls ≡ ms) × (r ≡ q)
 lines_once [] [] r q hl hm hr hq e = (refl, e)
 lines_once [] (m ∷ ms) r q hl hm hr hq e =

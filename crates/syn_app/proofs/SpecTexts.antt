@@ -11,13 +11,9 @@ use Rattle.syn_app.specs.Readers.{IsSpecReading, IsTerm}
 use Rattle.syn_app.specs.SpecText.{ProgramNames, AreProgramNames, IsCondition, IsSpecText, ExtendsSpec, WholeSpec, spec_line, program_line, ensures_line, ensures_of, spec_of, output_variable}
 use Rattle.syn_app.specs.Terms.{IsBase, IsClosed, term_text, term_tree, term_size, base_size}
 use Rattle.syn_app.specs.TheoryText.{ExtendsTheory, WholeTheory, IsTheoryText, theory_line}
-use Rattle.syn_app.proofs.Parts.{no_mark, cut_same}
+use Rattle.syn_app.proofs.Parts.{part_once}
 use Rattle.syn_app.proofs.TermTexts.{term_once, term_nodes, term_depth, term_some, variable_nodes, variable_depth}
 use Rattle.std.proofs.lemmas.Bool.Decides.{nat_tests}
-
-pub part_once : (text others p q r s : List ℕ) (mark : ℕ) → Without mark p → Without mark q → text ≡ p ++ mark ∷ (others ++ r) → text ≡ q ++ mark ∷ (others ++ s) → (p ≡ q) × (r ≡ s)
-part_once text others p q r s mark hp hq ep eq =
-    let t = cut_same p q (others ++ r) (others ++ s) mark hp hq (sym ep ∙ eq) in (t.0, append_cancel_left others r s t.1)
 
 module _ (mark : ℕ) (low : mark < 128) (other : is_name_byte mark ≡ false) where
   -- a name before the mark is the whole part before it

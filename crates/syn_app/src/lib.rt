@@ -2,6 +2,7 @@
 //! and a sink.
 #![tactic(auto)]
 
+mod derivation_text;
 mod lines;
 mod numbers;
 mod readings;
