@@ -1,3 +1,6 @@
+pub mod Parts
+pub mod NumberTexts
+pub mod TermTexts
 pub mod Closed
 pub mod Steps
 pub mod Correct
@@ -8,3 +11,5 @@ pub mod FourWords
 pub mod PrintedText
 pub mod PrintedBare
 pub mod Replays
+pub mod SpecTexts
+pub mod RowTexts

@@ -4,6 +4,7 @@ pub mod Terms
 pub mod TheoryText
 pub mod SpecText
 pub mod DerivationText
+pub mod Readers
 pub mod Rows
 pub mod Replay
 pub mod Shapes

@@ -2,13 +2,20 @@
 //! and a sink.
 #![tactic(auto)]
 
+mod check;
 mod command;
+mod derivation_text;
+mod lines;
+mod numbers;
 mod printing;
 mod readings;
 mod replay;
 mod rows;
+mod spec_text;
 mod status;
 mod synth;
+mod terms;
+mod theory_text;
 
 pub use command::{Command, command_of};
 pub use readings::{Base, Entry, FormReading, Row, RowReading, Step, TermReading};
