@@ -13,3 +13,5 @@ pub mod PrintedBare
 pub mod Replays
 pub mod SpecTexts
 pub mod RowTexts
+pub mod Accepted
+pub mod Tables

@@ -85,8 +85,8 @@ true_without : Without 32 (codes "true")
 true_without =
     All-cons (λ c. c ≡ 32 → ⊥) 116 (114 ∷ 117 ∷ 101 ∷ []) (λ e. absurd (omega arith))
     (All-cons (λ c. c ≡ 32 → ⊥) 114 (117 ∷ 101 ∷ []) (λ e. absurd (omega arith))
-      (All-cons (λ c. c ≡ 32 → ⊥) 117 (101 ∷ []) (λ e. absurd (omega arith))
-        (All-cons (λ c. c ≡ 32 → ⊥) 101 [] (λ e. absurd (omega arith)) (All-nil (λ c. c ≡ 32 → ⊥)))))
+    (All-cons (λ c. c ≡ 32 → ⊥) 117 (101 ∷ []) (λ e. absurd (omega arith))
+    (All-cons (λ c. c ≡ 32 → ⊥) 101 [] (λ e. absurd (omega arith)) (All-nil (λ c. c ≡ 32 → ⊥)))))
 
 true_no_equality : (input : List ℕ) (s : TermReading) (r q : List ℕ) → IsName input → IsTerm s → codes "true | " ++ r ≡ term_text input s ++ 32 ∷ (codes "= " ++ q) → ⊥
 true_no_equality input s r q named ok e =
@@ -227,10 +227,10 @@ read_stops input lines rows n are count is lt none = record {
   within = lt;
   before = read_extends input lines rows n are count is;
   bad = λ ext.
-    let e = subst (λ (x : List (List ℕ)). ExtendsDerivation input x (get_or lines n [])) is ext in
-    let l = length_lines input 1 rows in
-    let k : length (row_lines input 1 rows) + 1 ≡ n = omega arith in
-    none e.0 e.1 (e.2 ∙ ap (λ (j : ℕ). row_line input j e.0) k);
+      let e = subst (λ (x : List (List ℕ)). ExtendsDerivation input x (get_or lines n [])) is ext in
+      let l = length_lines input 1 rows in
+      let k : length (row_lines input 1 rows) + 1 ≡ n = omega arith in
+      none e.0 e.1 (e.2 ∙ ap (λ (j : ℕ). row_line input j e.0) k);
 }
 
 -- a line more is read
@@ -238,8 +238,8 @@ pub read_more : (input : List ℕ) (lines : List (List ℕ)) (rows : List RowRea
 read_more input lines rows r n count lt is line =
     take_more lines n [] lt
     ∙ (ap (λ (x : List (List ℕ)). x ++ get_or lines n [] ∷ []) is
-      ∙ (ap (λ (y : List ℕ). first_line ∷ (row_lines input 1 rows ++ y ∷ [])) line
-        ∙ ap (λ (z : List (List ℕ)). first_line ∷ z) (sym (lines_more input 1 n rows r (let e : n ≡ 1 + length rows = omega arith in e)))))
+    ∙ (ap (λ (y : List ℕ). first_line ∷ (row_lines input 1 rows ++ y ∷ [])) line
+    ∙ ap (λ (z : List (List ℕ)). first_line ∷ z) (sym (lines_more input 1 n rows r (let e : n ≡ 1 + length rows = omega arith in e)))))
 
 pub read_more_rows : (input : List ℕ) (lines : List (List ℕ)) (rows more : List RowReading) (r : RowReading) (n : ℕ) → AreRows rows → n ≡ length rows + 1 → n < length lines → take n lines ≡ first_line ∷ row_lines input 1 rows → get_or lines n [] ≡ row_line input n r → IsRow r → more ≡ rows ++ r ∷ [] → (take (n + 1) lines ≡ first_line ∷ row_lines input 1 more) × AreRows more × (n + 1 ≡ length more + 1)
 read_more_rows input lines rows more r n are count lt is line row e =

@@ -131,7 +131,7 @@ module _ (line word : List ℕ) (n : ProgramNames) (named : IsName n.input) (cut
   word_is r e =
       append_cancel_left (codes " = ") word (term_text n.input r)
       (append_cancel_left n.output (codes " = " ++ word) (codes " = " ++ term_text n.input r)
-        (append_cancel_left (codes "ensures ") (n.output ++ (codes " = " ++ word)) (n.output ++ (codes " = " ++ term_text n.input r)) (sym cut ∙ e)))
+      (append_cancel_left (codes "ensures ") (n.output ++ (codes " = " ++ word)) (n.output ++ (codes " = " ++ term_text n.input r)) (sym cut ∙ e)))
 
   pub no_condition : ((r : TermReading) → IsTerm r → word ≡ term_text n.input r → ⊥) → (r : TermReading) → IsCondition r → line ≡ ensures_line n r → ⊥
   no_condition none r ok e = none r (condition_term r ok) (word_is r e)

@@ -11,3 +11,4 @@ pub mod Shapes
 pub mod Status
 pub mod Words
 pub mod Printing
+pub mod Checks

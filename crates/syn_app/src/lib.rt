@@ -13,11 +13,11 @@ mod replay;
 mod rows;
 mod spec_text;
 mod status;
-mod synth;
 mod terms;
 mod theory_text;
+mod top;
 
 pub use command::{Command, command_of};
 pub use readings::{Base, Entry, FormReading, Row, RowReading, Step, TermReading};
 pub use status::{Status, Which, status_code, status_line};
-pub use synth::synth;
+pub use top::synth;
