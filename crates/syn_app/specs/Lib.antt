@@ -12,3 +12,5 @@ pub mod Status
 pub mod Words
 pub mod Printing
 pub mod Checks
+pub mod Comes
+pub mod Stages

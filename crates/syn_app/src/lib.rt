@@ -12,6 +12,7 @@ mod readings;
 mod replay;
 mod rows;
 mod spec_text;
+mod stages;
 mod status;
 mod terms;
 mod theory_text;
