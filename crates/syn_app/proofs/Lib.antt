@@ -15,3 +15,5 @@ pub mod SpecTexts
 pub mod RowTexts
 pub mod Accepted
 pub mod Tables
+pub mod Staged
+pub mod Ending
