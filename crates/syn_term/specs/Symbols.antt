@@ -13,10 +13,11 @@ pub record SymbolTable : Type 0 where
   pub syms : List Sym
   pub sorts : List NamedSort
 
--- The zero of the natural numbers, written `0`, and their successor, written `s`.
+-- The zero of the natural numbers, written `0`.
 abbrev pub zero_symbol : Sym
 zero_symbol = record { name = codes "0"; kind = Zero; args = []; result = Some Nat }
 
+-- The successor of a natural number, written `s`, as in `s(0)`.
 abbrev pub succ_symbol : Sym
 succ_symbol = record { name = codes "s"; kind = Succ; args = Nat ∷ []; result = Some Nat }
 
