@@ -6,3 +6,4 @@ pub mod Steps
 pub mod Correct
 pub mod SpecTexts
 pub mod RowTexts
+pub mod Exact

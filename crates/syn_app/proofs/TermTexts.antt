@@ -1,15 +1,15 @@
 -- A word is the text of at most one term, and as many nodes as a term's tree has, so deep it is.
-use Rattle.std.proofs.Common.{◌≡◌, Option, None, Some, MatchOption, Bor, ℕ, zero, suc, ◌+◌, ◌-◌, ◌<◌, ◌≤◌, ◌^◌, ◌⊎◌, ◌++◌, max, inl, inr, List, [], ◌∷◌, All, length, get_or, decimal, codes, map, sum, refl, sym, ◌∙◌, ap, subst, arith, append_assoc, true, false, ⊎_elim}
+use Rattle.std.proofs.Common.{◌≡◌, Option, None, Some, MatchOption, Bor, ℕ, zero, suc, ◌+◌, ◌-◌, ◌<◌, ◌≤◌, ◌^◌, ◌⊎◌, ◌++◌, max, inl, inr, List, [], ◌∷◌, length, get_or, decimal, codes, refl, sym, ◌∙◌, ap, subst, arith, ⊎_elim}
 use Rattle.std.specs.Int.{IsInRange}
 use Rattle.std.specs.Str.Parse.{AllDigits}
 use Rattle.std.proofs.lemmas.Fmt.{decimal_is_IsNumeral, decimal_injective}
 use Rattle.std.proofs.lemmas.Str.Parse.{digit_at}
 use Rattle.std.proofs.lemmas.List.{append_cancel_left, append_cancel_right}
-use Rattle.std.proofs.lemmas.List.Elements.{All-from_get_or, All-head, All-tail, All-cons, All-append, All-same}
+use Rattle.std.proofs.lemmas.List.Elements.{All-from_get_or, All-head, All-tail, All-cons, All-append}
 use Rattle.syn_term.specs.Names.{IsName}
 use Rattle.syn_term.proofs.NameLaws.{name_without, name_first_other, name_first_no_digit}
-use Rattle.syn_term.specs.Terms.{TermTree, nodes, nodes_step, depth_of, depth_step, greatest, application, variable_tree, nowhere}
-use Rattle.syn_term.specs.declared.term.Node.{Node, roll-Node, fold-roll-Node}
+use Rattle.syn_term.specs.Terms.{TermTree, nodes, nodes_step, depth_of, depth_step, application, variable_tree, nowhere}
+use Rattle.syn_term.specs.declared.term.Node.{roll-Node, fold-roll-Node}
 use Rattle.syn_term.specs.declared.term.Node.TheOpen.{Node-F}
 use Rattle.syn_term.specs.declared.sorts.SymId.{SymId}
 use Rattle.syn_term.specs.declared.sorts.Var.{Var}
@@ -39,7 +39,7 @@ decimal_without n b low mark =
     let d = digits_of n low in
     All-from_get_or (λ c. c ≡ b → ⊥) (decimal n) 0
     (λ i within e. let r = digit_at (decimal n) i d.1 within in let lo : 48 ≤ get_or (decimal n) i 0 = r.0 in let hi : get_or (decimal n) i 0 ≤ 57 = r.1 in
-      ⊎_elim (λ (h : b < 48). absurd (omega arith)) (λ (h : 57 < b). absurd (omega arith)) mark)
+    ⊎_elim (λ (h : b < 48). absurd (omega arith)) (λ (h : 57 < b). absurd (omega arith)) mark)
 
 -- a number's digits begin with no other byte
 pub decimal_first : (n b : ℕ) (rest : List ℕ) → n < 10 ^ 7 → (b < 48) ⊎ (57 < b) → decimal n ≡ b ∷ rest → ⊥
@@ -158,7 +158,7 @@ wrapped_without zero b x hs ho hc h = h
 wrapped_without (suc n) b x hs ho hc h =
     All-cons (λ c. c ≡ b → ⊥) 115 (40 ∷ (wrapped n x ++ 41 ∷ [])) hs
     (All-cons (λ c. c ≡ b → ⊥) 40 (wrapped n x ++ 41 ∷ []) ho
-      (All-append (λ c. c ≡ b → ⊥) (wrapped n x) (41 ∷ []) (wrapped_without n b x hs ho hc h) (All-cons (λ c. c ≡ b → ⊥) 41 [] hc (λ k d lt. absurd (omega arith)))))
+    (All-append (λ c. c ≡ b → ⊥) (wrapped n x) (41 ∷ []) (wrapped_without n b x hs ho hc h) (All-cons (λ c. c ≡ b → ⊥) 41 [] hc (λ k d lt. absurd (omega arith)))))
 
 base_no_space : (input : List ℕ) (b : Base) → IsName input → IsBase b → Without 32 (base_text input b)
 base_no_space input base.Input named ok = name_without input 32 named (omega arith) refl

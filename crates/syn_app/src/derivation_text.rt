@@ -14,10 +14,10 @@ ghost use Rattle.syn_app.specs.Limits.{FitsForm, FitsRow, FitsTerm};
 ghost use Rattle.syn_app.specs.Readers.{HasParts, HasTerms, IsDerivationReading, IsTerm, Refuses, RefusesLines, row_text, with_form, with_step};
 ghost use Rattle.syn_app.specs.Terms.{term_text, term_tree};
 
-use crate::lines::{cut_lines, part_before, same, strip, FileError};
+use crate::lines::{FileError, cut_lines, part_before, same, strip};
 use crate::numbers::number_in;
 use crate::readings::{FormReading, RowReading, Step, TermReading};
-use crate::terms::{size_of, term_in, MOST_DEPTH, MOST_NODES};
+use crate::terms::{MOST_DEPTH, MOST_NODES, size_of, term_in};
 use itoa::Buffer;
 use std::alloc::Global;
 use syn_term::NoMemory;
@@ -131,13 +131,7 @@ fn row_in(line: &[u8], number: u64, input: &str) -> Option<RowReading>
     };
     match row_after_number(text, input) {
         None => None,
-        Some(row) => {
-            if fits(&row) {
-                Some(row)
-            } else {
-                None
-            }
-        }
+        Some(row) => { if fits(&row) { Some(row) } else { None } }
     }
 }
 
@@ -170,7 +164,11 @@ fn read_rows(alloc: Global, input: &str, lines: &[&[u8]]) -> Result<Vec<RowReadi
 
 /// The rows of the derivation that the bytes are the text of, over an input of this name, or the
 /// number of the first bad line.
-pub(crate) fn read_derivation(alloc: Global, input: &str, bytes: &[u8]) -> Result<Vec<RowReading>, FileError>
+pub(crate) fn read_derivation(
+    alloc: Global,
+    input: &str,
+    bytes: &[u8],
+) -> Result<Vec<RowReading>, FileError>
     requires { IsName input.now }
     ensures { MatchResult result (λ rows. IsDerivationReading input.now bytes.now rows.items) (Refuses (ExtendsDerivation input.now) WholeDerivation bytes.now) }
 {

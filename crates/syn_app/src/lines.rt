@@ -44,7 +44,11 @@ pub(crate) fn strip<'a>(text: &'a [u8], prefix: &[u8]) -> Option<&'a [u8]>
 
 /// The part before the first such byte, and what follows that byte and the others after it, or
 /// `None` where the text isn't so.
-pub(crate) fn part_before<'a>(text: &'a [u8], mark: u8, others: &[u8]) -> Option<(&'a [u8], &'a [u8])>
+pub(crate) fn part_before<'a>(
+    text: &'a [u8],
+    mark: u8,
+    others: &[u8],
+) -> Option<(&'a [u8], &'a [u8])>
     ensures { MatchOption result ((part rest : List ℕ) → Without mark part → ¬ (text.now ≡ part ++ mark ∷ (others.now ++ rest))) (λ p. Without mark p.0.now × (text.now ≡ p.0.now ++ mark ∷ (others.now ++ p.1.now))) }
 {
     match split_at(text, mark) {

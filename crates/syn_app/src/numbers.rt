@@ -68,12 +68,6 @@ pub(crate) fn name_in(word: &[u8]) -> Option<&str>
 {
     match str::from_utf8(word) {
         Err(_) => None,
-        Ok(name) => {
-            if is_name(name) {
-                Some(name)
-            } else {
-                None
-            }
-        }
+        Ok(name) => { if is_name(name) { Some(name) } else { None } }
     }
 }

@@ -9,10 +9,10 @@ ghost use Rattle.syn_app.specs.Readers.{IsSpecReading, Refuses};
 ghost use Rattle.syn_app.specs.SpecText.{AreProgramNames, ExtendsSpec, IsCondition, ProgramNames, WholeSpec, ensures_line, ensures_of, program_line, spec_line};
 ghost use Rattle.syn_app.specs.Terms.{IsClosed};
 
-use crate::lines::{cut_lines, part_before, same, strip, FileError};
+use crate::lines::{FileError, cut_lines, part_before, same, strip};
 use crate::numbers::name_in;
 use crate::readings::{Base, TermReading};
-use crate::terms::{size_of, term_in, MOST_DEPTH, MOST_NODES};
+use crate::terms::{MOST_DEPTH, MOST_NODES, size_of, term_in};
 use std::alloc::Global;
 
 /// A specification, as its text is read: the names are parts of the text.

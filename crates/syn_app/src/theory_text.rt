@@ -5,7 +5,7 @@ ghost use Rattle.syn_term.specs.Names.{IsName};
 ghost use Rattle.syn_app.specs.Readers.{Refuses};
 ghost use Rattle.syn_app.specs.TheoryText.{ExtendsTheory, IsTheoryText, WholeTheory, theory_line};
 
-use crate::lines::{cut_lines, strip, FileError};
+use crate::lines::{FileError, cut_lines, strip};
 use crate::numbers::name_in;
 use std::alloc::Global;
 

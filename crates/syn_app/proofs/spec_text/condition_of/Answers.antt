@@ -15,6 +15,6 @@ returns-else-is_closed c = λ r ok e.
     (record { program = c.args.header.now.program.now; input = c.args.header.now.input.now; output = c.args.header.now.output.now })
     c.requires c.in-Some.ensures c.in-Some-term_in.term c.in-Some-term_in.ensures.0 c.in-Some-term_in.ensures.1 r ok e in
     elim c.else-is_closed.branch [
-      else-is_closed-via-then-is_closed+else-fits w ↦ true≢false (sym (w.fits.ensures.1 h.fits) ∙ w.if-fits.false)
+      | else-is_closed-via-then-is_closed+else-fits w ↦ true≢false (sym (w.fits.ensures.1 h.fits) ∙ w.if-fits.false)
       | else-is_closed-via-else-is_closed w ↦ true≢false (sym (c.is_closed.ensures.1 h.closed) ∙ w.if-is_closed.false)
     ]
