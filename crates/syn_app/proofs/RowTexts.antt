@@ -19,7 +19,8 @@ use Rattle.syn_app.specs.Lines.{ExtendsAt, IsCut, IsFirstBad, Without}
 use Rattle.syn_app.specs.Readers.{HasParts, HasTerms, IsDerivationReading, IsFirstBadLine, IsTerm, Refuses, RefusesLines, row_text, with_form, with_step}
 use Rattle.syn_app.specs.Terms.{term_text, term_tree}
 use Rattle.syn_app.proofs.Parts.{cut_same, part_once}
-use Rattle.syn_app.proofs.TermTexts.{decimal_without, term_once, term_no_space, term_nodes}
+use Rattle.syn_app.proofs.Closed.{nodes-term_tree}
+use Rattle.syn_app.proofs.TermTexts.{decimal_without, term_once, term_no_space}
 
 -- a term before a space is the whole part before it
 module _ (text others input : List ℕ) (named : IsName input) where
@@ -140,7 +141,7 @@ after_number_is line input text n r cut e =
     append_cancel_left (32 ∷ []) text (row_text input r) t
 
 term_low : (r : TermReading) → nodes (term_tree r) ≤ 4096 → r.successors ≤ 4096
-term_low r h = let t = term_nodes r in omega arith
+term_low r h = let t = nodes-term_tree r in omega arith
 
 form_terms : (f : FormReading) → IsForm f → FitsForm (form_tree f) → HasTerms f
 form_terms reading.True ok fit = tt

@@ -12,7 +12,8 @@ use Rattle.syn_app.specs.SpecText.{ProgramNames, AreProgramNames, IsCondition, I
 use Rattle.syn_app.specs.Terms.{term_text, term_tree}
 use Rattle.syn_app.specs.TheoryText.{ExtendsTheory, WholeTheory, theory_line}
 use Rattle.syn_app.proofs.Parts.{part_once}
-use Rattle.syn_app.proofs.TermTexts.{term_once, term_nodes, term_depth, term_some, variable_nodes, variable_depth}
+use Rattle.syn_app.proofs.Closed.{nodes-term_tree, depth_of-term_tree}
+use Rattle.syn_app.proofs.TermTexts.{term_once, term_some, variable_nodes, variable_depth}
 use Rattle.std.proofs.lemmas.Bool.Decides.{nat_tests}
 
 module _ (mark : ℕ) (low : mark < 128) (other : is_name_byte mark ≡ false) where
@@ -105,7 +106,7 @@ module _ (size : ℕ) (r : TermReading) (is_nodes : size ≡ nodes (term_tree r)
   fits_condition n d =
       let vn = variable_nodes output_variable in
       let vd = variable_depth output_variable in
-      let t = term_depth r in
+      let t = depth_of-term_tree r in
       let s = term_some r in (omega arith, omega arith)
 
   pub condition_size : FitsForm (ensures_of r) → (size + 2 ≤ 4096) × (size + 1 ≤ 1200)
@@ -123,7 +124,7 @@ condition_rest line out a b (Some x) ea eb h = ea ∙ ap (λ (t : List ℕ). cod
 condition_term : (r : TermReading) → IsCondition r → IsTerm r
 condition_term r h =
     let n = h.fits.0 in
-    let t = term_nodes r in
+    let t = nodes-term_tree r in
     (h.base, omega arith)
 
 module _ (line word : List ℕ) (n : ProgramNames) (named : IsName n.input) (cut : line ≡ codes "ensures " ++ (n.output ++ (codes " = " ++ word))) where
