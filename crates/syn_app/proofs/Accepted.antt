@@ -1,15 +1,14 @@
 -- From the shapes of rows to accepted derivations and correct programs.
-use Rattle.std.proofs.Common.{◌≡◌, ◌≢◌, ℕ, zero, suc, ◌+◌, ◌<◌, ◌≤◌, max, Bool, true, false, ◌&&◌, List, [], ◌∷◌, ◌++◌, Option, Some, None, map, take, length, slice_get, refl, sym, ◌∙◌, ap, subst, arith, inl, inr, ◌⊎◌, MatchOption}
+use Rattle.std.proofs.Common.{◌≡◌, ℕ, zero, suc, ◌+◌, ◌<◌, ◌≤◌, max, Bool, true, ◌&&◌, List, [], ◌∷◌, ◌++◌, Option, Some, None, map, take, length, slice_get, refl, sym, ◌∙◌, ap, subst, arith, inl, inr, MatchOption}
 use Rattle.std.specs.Option.{option_map}
 use Rattle.std.specs.List.{list_all}
 use Rattle.std.proofs.lemmas.List.{map-append, length-map, take_all}
 use Rattle.syn_term.specs.declared.sorts.SymId.{SymId}
 use Rattle.syn_term.specs.declared.sorts.Sort.TheVariants as sort
 use Rattle.syn_term.specs.declared.term.Node.{fold-Node}
-use Rattle.syn_term.specs.declared.term.Node.TheOpen.{Node-F}
-use Rattle.syn_term.specs.Terms.{TermTree, application, nowhere, bare, depth_of, depth_step}
+use Rattle.syn_term.specs.Terms.{TermTree, application, nowhere, bare, depth_of}
 use Rattle.syn_term.specs.Symbols.{SymbolTable, symbol_at}
-use Rattle.syn_term.proofs.Trees.{fold-App, fold-Var}
+use Rattle.syn_term.proofs.Trees.{fold-App}
 use Rattle.syn_model.specs.declared.trees.Form.TheVariants as form
 use Rattle.syn_model.specs.declared.trees.Out.TheVariants as out
 use Rattle.syn_model.specs.Trees.{FormTree, OutTree, TheoryTree, SpecTree, ProgramTree, spec_symbols}
@@ -29,14 +28,14 @@ use Rattle.syn_app.specs.DerivationText.{entry_of, form_tree, row_tree}
 use Rattle.syn_app.specs.Limits.{FitsForm}
 use Rattle.syn_app.specs.Printing.{nat_program}
 use Rattle.syn_app.specs.Rows.{bare_form, bare_row, simplified_row}
-use Rattle.syn_app.specs.Replay.{Follows, FollowsAt, IsAccepted, IsFinal, IsFirstToFail, IsUnfinished, accepted_program, closed_term, last_row, program_of_row, row_at, simplified_entry, simplified_rows}
-use Rattle.syn_app.specs.Shapes.{AreShaped, FirstUnshaped, HasShape, IsFirstUnshaped, IsTarget, ShapedAt, StepGives, row_variable, solved_goal}
+use Rattle.syn_app.specs.Replay.{FollowsAt, IsUnfinished, closed_term, last_row, program_of_row, row_at, simplified_entry, simplified_rows}
+use Rattle.syn_app.specs.Shapes.{AreShaped, FirstUnshaped, HasShape, IsTarget, ShapedAt, StepGives, row_variable, solved_goal}
 use Rattle.syn_app.specs.SpecText.{IsCondition, ProgramNames, ensures_of, nat_declared, spec_of}
 use Rattle.syn_app.specs.Checks.{EndsOtherwise, EndsWith, FailsCheck, IsProven}
-use Rattle.syn_app.specs.Terms.{IsClosed, base_tree, input_id, succ_id, successors_of, term_size, term_tree, zero_id}
+use Rattle.syn_app.specs.Terms.{IsClosed, base_tree, input_id, succ_id, successors_of, term_tree, zero_id}
 use Rattle.syn_app.proofs.Closed.{closed_term-closed, depth_of-term_tree, bare-term_tree}
 use Rattle.syn_app.proofs.Correct.{solved_correct, solved_program}
-use Rattle.syn_app.proofs.Numbered.{step_shape, same_entry, shapes_before}
+use Rattle.syn_app.proofs.Numbered.{shapes_before}
 use Rattle.syn_app.proofs.Simplified.{bare_row-simplified}
 use Rattle.syn_app.proofs.Steps.{follows_from, follows_to}
 

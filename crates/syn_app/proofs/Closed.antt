@@ -1,10 +1,9 @@
 -- Terms without variables: what leaves symbols as they are leaves these terms whole.
-use Rattle.std.proofs.Common.{◌≡◌, ℕ, zero, suc, ◌+◌, Bool, true, false, List, [], ◌∷◌, map, max, sum, refl, sym, ◌∙◌, ap, arith}
+use Rattle.std.proofs.Common.{◌≡◌, ℕ, zero, suc, ◌+◌, Bool, false, List, [], ◌∷◌, refl, ◌∙◌, ap, arith}
 use Rattle.syn_term.specs.declared.sorts.SymId.{SymId}
-use Rattle.syn_term.specs.declared.sorts.Var.{Var}
 use Rattle.syn_term.specs.declared.term.Node.{Node, fold-Node}
 use Rattle.syn_term.specs.declared.term.Node.TheOpen.{Node-F}
-use Rattle.syn_term.specs.Terms.{TermTree, application, variable_tree, nowhere, bare, bare_step, nodes, nodes_step, depth_of, depth_step, greatest}
+use Rattle.syn_term.specs.Terms.{TermTree, application, nowhere, bare, bare_step, nodes, nodes_step, depth_of, depth_step}
 use Rattle.syn_term.proofs.Trees.{fold-App, fold-Var}
 use Rattle.syn_app.specs.declared.readings.Base.{Base}
 use Rattle.syn_app.specs.declared.readings.Base.TheVariants as base

@@ -1,13 +1,12 @@
 -- The program whose body is the term of the output condition is correct: a closed term evaluates, and to one value
 -- whatever calls of the program give.
-use Rattle.std.proofs.Common.{◌≡◌, ℕ, zero, suc, ◌+◌, ◌-◌, Bool, true, false, List, [], ◌∷◌, Option, Some, None, map, slice_get, refl, sym, ◌∙◌, ap, subst, arith}
+use Rattle.std.proofs.Common.{◌≡◌, ℕ, zero, suc, ◌+◌, List, [], ◌∷◌, Option, Some, refl, ◌∙◌, ap, arith}
 use Rattle.std.specs.Option.{option_map, option_and_then}
 use Rattle.syn_term.specs.declared.sorts.Sort.TheVariants as sort
 use Rattle.syn_term.specs.declared.sorts.Sym.{Sym}
 use Rattle.syn_term.specs.declared.sorts.SymId.{SymId}
 use Rattle.syn_term.specs.declared.sorts.Kind.{Kind}
 use Rattle.syn_term.specs.declared.sorts.Kind.TheVariants as kind
-use Rattle.syn_term.specs.declared.term.Node.TheOpen.{Node-F}
 use Rattle.syn_term.specs.Symbols.{SymbolTable, symbol_at, zero_symbol, succ_symbol}
 use Rattle.syn_term.specs.Terms.{TermTree, application, nowhere}
 use Rattle.syn_term.proofs.Trees.{fold-App, fold-Var}
@@ -15,7 +14,6 @@ use Rattle.syn_model.specs.declared.trees.Value.{Value}
 use Rattle.syn_model.specs.declared.trees.Value.TheVariants.{Num}
 use Rattle.syn_model.specs.declared.trees.Out.TheVariants as out
 use Rattle.syn_model.specs.Trees.{TheoryTree, SpecTree, ProgramTree, input_symbol, program_symbols, spec_symbols}
-use Rattle.syn_model.specs.Values.{OfSorts}
 use Rattle.syn_model.specs.Evaluation.{Answer, Call, Environment, term_by, term_step, together, after, applied, call_at, inputs_read, program_meaning}
 use Rattle.syn_model.specs.Correctness.{IsCorrect, EndsWell, MeetsEnsures, with_output, spec_meaning}
 use Rattle.syn_app.specs.declared.readings.Base.{Base}

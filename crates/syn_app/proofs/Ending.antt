@@ -1,23 +1,21 @@
 -- From the ends of the stages to when the status comes.
-use Rattle.std.proofs.Common.{◌≡◌, ℕ, ◌≤◌, min, ◌+◌, ◌-◌, ◌^◌, List, [], ◌∷◌, Option, None, Some, refl, sym, ◌∙◌, ap, subst, arith, inl, inr, ◌⊎◌}
-use Rattle.syn_outside.specs.Files.{File, Told, file_of}
-use Rattle.syn_outside.specs.Faults.{HasCause, Rose}
+use Rattle.std.proofs.Common.{◌≡◌, ℕ, ◌≤◌, List, [], Option, None, Some, refl, sym, ◌∙◌, subst, arith, inl, inr}
+use Rattle.syn_outside.specs.Files.{File, Told}
+use Rattle.syn_outside.specs.Faults.{HasCause}
 use Rattle.syn_outside.specs.Texts.{Adds, AddsPrefix}
-use Rattle.syn_model.specs.Trees.{TheoryTree, SpecTree, ProgramTree}
-use Rattle.syn_model.specs.ProgramText.{printed_program}
+use Rattle.syn_model.specs.Trees.{TheoryTree, SpecTree}
 use Rattle.syn_app.specs.declared.readings.Entry.{Entry}
 use Rattle.syn_app.specs.declared.spec_text.SpecReading.{SpecReading}
 use Rattle.syn_app.specs.declared.status.Status.{Status}
 use Rattle.syn_app.specs.declared.status.Status.TheVariants as status
-use Rattle.syn_app.specs.declared.status.Which.{Which}
 use Rattle.syn_app.specs.declared.status.Which.TheVariants as which
 use Rattle.syn_app.specs.Lines.{IsFirstBad}
 use Rattle.syn_app.specs.SpecText.{ExtendsSpec, HasInput, IsSpecText, WholeSpec}
-use Rattle.syn_app.specs.DerivationText.{ExtendsDerivation, IsDerivationText, WholeDerivation}
+use Rattle.syn_app.specs.DerivationText.{ExtendsDerivation, WholeDerivation}
 use Rattle.syn_app.specs.Replay.{IsFirstToFail, IsUnfinished}
 use Rattle.syn_app.specs.Checks.{reading_names, reading_spec}
-use Rattle.syn_app.specs.Comes.{AreTexts, ComesFor, FileNames, GoodSpec, GoodTheory, IsLong, IsShort, OfTexts, ReadsSpec, Scene, Writing, WritesPart}
-use Rattle.syn_app.specs.Stages.{DerivationEnds, DerivationFails, IsLoaded, IsSpecRead, LoadFails, OfEntries, Prints, PutsPart, SpecFails, TheoryEnds}
+use Rattle.syn_app.specs.Comes.{ComesFor, FileNames, GoodSpec, GoodTheory, IsLong, IsShort, OfTexts, ReadsSpec, Scene, Writing}
+use Rattle.syn_app.specs.Stages.{DerivationEnds, DerivationFails, IsLoaded, IsSpecRead, LoadFails, OfEntries, Prints, SpecFails, TheoryEnds}
 
 -- what holds of two files, and of three
 told_two : (P Q : List ℕ → Type 0) (T : List ℕ → List ℕ → Type 0) (files : Option (List File)) (x y : List ℕ) → ((a b : List ℕ) → P a → Q b → T a b) → Told P files x → Told Q files y → Told (λ a. Told (T a) files y) files x

@@ -1,8 +1,7 @@
 -- From what each stage answers to how a check ends.
-use Rattle.std.proofs.Common.{◌≡◌, ℕ, ◌≤◌, min, ◌+◌, ◌-◌, ◌^◌, List, [], ◌∷◌, Option, None, Some, Result, map, refl, sym, ◌∙◌, ap, subst, arith, inl, inr, ◌⊎◌, MatchResult}
+use Rattle.std.proofs.Common.{◌≡◌, ℕ, List, Option, None, Some, Result, map, refl, sym, subst, inl, inr, MatchResult}
 use Rattle.std.proofs.lemmas.Result.{MatchResult-weaker}
-use Rattle.syn_outside.specs.Files.{File, Told, file_of}
-use Rattle.syn_outside.specs.Faults.{HasCause, Rose}
+use Rattle.syn_outside.specs.Files.{File, Told}
 use Rattle.syn_outside.specs.Texts.{Adds, AddsPrefix}
 use Rattle.syn_app.specs.declared.readings.Entry.{Entry}
 use Rattle.syn_app.specs.declared.readings.RowReading.{RowReading}
@@ -11,8 +10,8 @@ use Rattle.syn_app.specs.declared.status.Status.{Status}
 use Rattle.syn_app.specs.declared.status.Status.TheVariants as status
 use Rattle.syn_app.specs.DerivationText.{IsDerivationText, entry_of}
 use Rattle.syn_app.specs.Readers.{IsDerivationReading}
-use Rattle.syn_app.specs.Comes.{IsLong, IsShort}
-use Rattle.syn_app.specs.Stages.{DerivationEnds, DerivationFails, EntriesFail, IsLoaded, LoadFails, Prints, PrintsEntries, PutsPart, WriteEnds}
+use Rattle.syn_app.specs.Comes.{IsShort}
+use Rattle.syn_app.specs.Stages.{DerivationEnds, DerivationFails, EntriesFail, IsLoaded, Prints, PrintsEntries, WriteEnds}
 
 derivation_read : (input bytes : List ℕ) (rows : List RowReading) → IsDerivationReading input bytes rows → IsDerivationText input bytes (map entry_of rows)
 derivation_read input bytes rows h = record { rows = rows; cut = h.cut; are_rows = h.are_rows; is = refl }

@@ -1,26 +1,24 @@
 -- What the two rules give for a specification of this form: its goal is `z = T`, with T closed. Each row that follows is
 -- `?n = T | ?n`, a variant of the goal, or `true | T`.
-use Rattle.std.proofs.Common.{◌≡◌, ℕ, zero, suc, ◌+◌, ◌<◌, ◌≤◌, max, Bool, true, false, if◌then◌else◌, cond, nat_eq, List, [], ◌∷◌, Some, refl, sym, ◌∙◌, ap, subst, arith, ◌⊎◌, inl, inr}
+use Rattle.std.proofs.Common.{◌≡◌, ℕ, ◌≤◌, Bool, true, false, if◌then◌else◌, cond, nat_eq, List, [], ◌∷◌, Some, refl, sym, ◌∙◌, ap, subst, arith, ◌⊎◌, inl, inr}
 use Rattle.std.proofs.lemmas.Bool.Decides.{nat_tests}
 use Rattle.syn_term.specs.declared.sorts.Sort.TheVariants as sort
 use Rattle.syn_term.specs.declared.sorts.Var.{Var}
-use Rattle.syn_term.specs.declared.term.Node.{Node, fold-Node}
-use Rattle.syn_term.specs.declared.term.Node.TheOpen.{Node-F}
-use Rattle.syn_term.specs.Terms.{TermTree, application, variable_tree, nowhere, bare, bare_step, nodes, nodes_step, depth_of, depth_step}
+use Rattle.syn_term.specs.Terms.{TermTree, variable_tree, nowhere, bare, bare_step, nodes, nodes_step, depth_of, depth_step}
 use Rattle.syn_term.specs.Same.{same_tree}
 use Rattle.syn_term.proofs.Same.{same_tree-to, same_tree-from}
-use Rattle.syn_term.proofs.Trees.{fold-App, fold-Var, fold-bare}
+use Rattle.syn_term.proofs.Trees.{fold-Var, fold-bare}
 use Rattle.syn_model.specs.declared.trees.Form.TheVariants as form
 use Rattle.syn_model.specs.declared.trees.Out.TheVariants as out
-use Rattle.syn_model.specs.Trees.{FormTree, OutTree, SpecTree}
+use Rattle.syn_model.specs.Trees.{FormTree, SpecTree}
 use Rattle.syn_app.specs.declared.readings.Row.{Row}
 use Rattle.syn_app.specs.declared.readings.TermReading.{TermReading}
 use Rattle.syn_app.specs.declared.readings.Step.{Step}
 use Rattle.syn_app.specs.declared.readings.Step.TheVariants as step
 use Rattle.syn_app.specs.Terms.{term_tree, term_size, IsClosed}
-use Rattle.syn_app.specs.SpecText.{output_variable, ensures_of}
+use Rattle.syn_app.specs.SpecText.{ensures_of}
 use Rattle.syn_app.specs.Limits.{FitsRow, FitsStep}
-use Rattle.syn_app.specs.Rows.{Substitution, image, substituted, substituted_step, renamed, renamed_step, renumbered, renamed_row, bare_row, bare_form, bare_out, HasVariable, has_variable_step, OccursIn, IsUnifier, IsMostGeneral, instance_of, AreVariants, simplified_row, simplified_form}
+use Rattle.syn_app.specs.Rows.{Substitution, image, substituted, substituted_step, renamed, renamed_step, renumbered, renamed_row, bare_row, HasVariable, has_variable_step, OccursIn, IsUnifier, IsMostGeneral, instance_of, AreVariants, simplified_row}
 use Rattle.syn_app.specs.Shapes.{row_variable, open_goal, solved_goal, IsOpen, HasShape, StepGives, IsTarget}
 use Rattle.syn_app.specs.Replay.{Follows, row_at, goal_row, GoalGives, ReflexGives}
 use Rattle.syn_app.proofs.Closed.{substituted-closed, renamed-closed, bare-term_tree, closed-has, nodes-term_tree, depth_of-term_tree}

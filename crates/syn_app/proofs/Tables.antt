@@ -1,11 +1,9 @@
 -- The symbols of a specification may be added, since its names are distinct and no name is `0` or `s`.
-use Rattle.std.proofs.Common.{◌≡◌, ◌≢◌, ℕ, zero, suc, ◌<◌, ◌⊎◌, inl, inr, List, [], ◌∷◌, Some, All, Contains, length, codes, get_or, slice_index_or, refl, sym as sym_path, ◌∙◌, ap, subst, arith}
+use Rattle.std.proofs.Common.{◌≡◌, ◌≢◌, ℕ, zero, suc, ◌<◌, inl, inr, List, [], ◌∷◌, All, codes, get_or, slice_index_or, refl, sym as sym_path, ◌∙◌, ap, subst, arith}
 use Rattle.syn_term.specs.declared.sorts.Sym.{Sym}
-use Rattle.std.proofs.lemmas.List.Elements.{Contains-get_or}
-use Rattle.syn_term.specs.declared.sorts.Sort.{Sort}
 use Rattle.syn_term.specs.declared.sorts.Sort.TheVariants as sort
-use Rattle.syn_term.specs.Names.{IsName, reserved}
-use Rattle.syn_term.specs.Symbols.{IsSort, IsTaken, MayAdd, SymbolTable, first_symbols, with_symbol}
+use Rattle.syn_term.specs.Names.{IsName}
+use Rattle.syn_term.specs.Symbols.{IsSort, MayAdd, SymbolTable, first_symbols, with_symbol}
 use Rattle.syn_term.proofs.NameLaws.{name_first_no_digit}
 use Rattle.syn_app.specs.Printing.{nat_input_symbol, nat_program_symbol, nat_program_symbols}
 use Rattle.syn_app.specs.Shapes.{HasTexts}

@@ -1,19 +1,15 @@
 -- What the check of a derivation answers.
-use Rattle.std.specs.Prelude.{◌≡◌, ℕ, List, [], ◌∷◌, ◌++◌, Some}
+use Rattle.std.specs.Prelude.{◌≡◌, List, [], ◌∷◌, ◌++◌, Some}
 use Rattle.syn_term.specs.Terms.{TermTree}
-use Rattle.syn_model.specs.declared.trees.Form.TheVariants as form
-use Rattle.syn_model.specs.declared.trees.Out.TheVariants as out
 use Rattle.syn_model.specs.Trees.{TheoryTree, SpecTree, ProgramTree}
 use Rattle.syn_model.specs.Correctness.{IsCorrect}
 use Rattle.syn_app.specs.declared.readings.Row.{Row}
 use Rattle.syn_app.specs.declared.readings.Entry.{Entry}
-use Rattle.syn_app.specs.declared.readings.TermReading.{TermReading}
 use Rattle.syn_app.specs.declared.replay.CheckError.{CheckError}
 use Rattle.syn_app.specs.declared.replay.CheckError.TheVariants as error
 use Rattle.syn_app.specs.declared.spec_text.SpecReading.{SpecReading}
 use Rattle.syn_app.specs.Replay.{IsAccepted, IsFirstToFail, IsUnfinished, accepted_program}
 use Rattle.syn_app.specs.SpecText.{ProgramNames, spec_of}
-use Rattle.syn_app.specs.Printing.{nat_program}
 use Rattle.syn_app.specs.Shapes.{solved_goal}
 
 -- the names of a specification that was read, and the specification itself

@@ -4,7 +4,6 @@ use Rattle.std.specs.Prelude.{◌≡◌, ℕ, ◌+◌, ◌<◌, ◌^◌, List, [
 use Rattle.syn_model.specs.declared.trees.Form.TheVariants as form
 use Rattle.syn_model.specs.declared.trees.Out.TheVariants as out
 use Rattle.syn_model.specs.Trees.{FormTree}
-use Rattle.syn_app.specs.declared.readings.TermReading.{TermReading}
 use Rattle.syn_app.specs.declared.readings.FormReading.{FormReading}
 use Rattle.syn_app.specs.declared.readings.FormReading.TheVariants as reading
 use Rattle.syn_app.specs.declared.readings.Step.{Step}

@@ -1,6 +1,6 @@
 -- When a row of a derivation follows, when a derivation is accepted, and what its program is. A row is judged after
 -- simplification: its simplified formula is what follows and what later rows build on.
-use Rattle.std.specs.Prelude.{◌≡◌, ℕ, zero, suc, ◌+◌, ◌-◌, ◌<◌, ◌≤◌, List, [], ◌∷◌, Option, None, Some, map, take, length, slice_get}
+use Rattle.std.specs.Prelude.{◌≡◌, ℕ, zero, suc, ◌+◌, ◌<◌, List, [], Option, None, Some, map, take, length, slice_get}
 use Rattle.std.specs.Option.{option_map}
 use Rattle.syn_term.specs.declared.sorts.Sort.{Sort}
 use Rattle.syn_term.specs.declared.term.Node.{Node, fold-Node}

@@ -56,7 +56,12 @@ fn run<C: Cabinet, S: Sink>(alloc: Global, words: &[String], cab: &mut C, out: &
 /// The answer is Done, or the first refusal in this order: the words; the theory read, then its
 /// text; the specification read, then its text; the derivation read, then its text; the rows of the
 /// derivation; the write. NoMemory may come at any place.
-pub fn synth<C: Cabinet, S: Sink>(alloc: Global, words: &[String], cab: &mut C, out: &mut S) -> Status
+pub fn synth<C: Cabinet, S: Sink>(
+    alloc: Global,
+    words: &[String],
+    cab: &mut C,
+    out: &mut S,
+) -> Status
     // When each status comes, as one relation: the clauses below follow from it.
     ensures comes { Comes (record { words = map string_bytes words.now; files = C.files cab.old; reads = C.read_faults cab.old; reads_after = C.read_faults cab.new; text = S.text out.old; text_after = S.text out.new; faults = S.faults out.old; faults_after = S.faults out.new }) result }
 

@@ -1,6 +1,5 @@
 use Rattle.std.proofs.Common.{subst, sym}
 use Rattle.std.proofs.lemmas.Result.{err_from_is_err_and}
-use Rattle.syn_term.specs.Symbols.{SymbolTable}
 use Rattle.syn_app.specs.Shapes.{HasTexts}
 use Rattle.syn_app.proofs.Tables.{has_texts}
 use Rattle.syn_app.proofs.Accepted.{first_fails, is_target, proven, unfinished}

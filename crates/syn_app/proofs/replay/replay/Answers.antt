@@ -1,6 +1,5 @@
-use Rattle.std.proofs.Common.{◌≡◌, List, map, take, refl, sym, ◌∙◌, ap, subst, arith}
+use Rattle.std.proofs.Common.{map, refl, sym, ◌∙◌, ap, subst, arith}
 use Rattle.syn_term.specs.Bank.{Belongs-extends, Extends-trans}
-use Rattle.syn_app.specs.declared.readings.Row.{Row}
 use Rattle.syn_app.specs.Rows.{bare_row}
 use Rattle.syn_app.specs.Shapes.{HaveShape}
 use Rattle.syn_app.proofs.Numbered.{shapes_before}

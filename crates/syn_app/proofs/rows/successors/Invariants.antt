@@ -1,7 +1,6 @@
 use Rattle.std.proofs.Common.{◌≡◌, Some}
-use Rattle.syn_term.specs.Bank.{Kept, Belongs, Extends}
-use Rattle.syn_term.specs.Symbols.{SymbolTable}
-use Rattle.syn_term.specs.Terms.{TermTree, bare, sort_of}
+use Rattle.syn_term.specs.Bank.{Belongs, Extends}
+use Rattle.syn_term.specs.Terms.{bare, sort_of}
 use Rattle.syn_term.specs.declared.sorts.Sort.TheVariants as sort
 use Rattle.syn_app.specs.Terms.{successors_of}
 use Rattle.syn_app.proofs.rows.successors.Given as goal
