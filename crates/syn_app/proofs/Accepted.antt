@@ -207,7 +207,7 @@ module _ (theory : TheoryTree) (name : List ℕ) (n : ProgramNames) (r : TermRea
         };
       };
       program = ap (option_map (program_of_row (spec_of name n r))) last_is ∙ ap (λ (z : TermTree). Some (nat_body n z)) closed_is;
-      correct = subst (IsCorrect theory (spec_of name n r)) (sym program_is) (solved_correct theory name n r condition.closed);
+      correct = λ axioms. subst (IsCorrect theory (spec_of name n r)) (sym program_is) (solved_correct theory name n r condition.closed);
     }
 
 no_items : (ys : List Row) (y : Row) → ◌≡◌ {A = List Row} [] (ys ++ y ∷ []) → ⊥

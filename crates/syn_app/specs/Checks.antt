@@ -3,6 +3,7 @@ use Rattle.std.specs.Prelude.{◌≡◌, List, [], ◌∷◌, ◌++◌, Some}
 use Rattle.syn_term.specs.Terms.{TermTree}
 use Rattle.syn_model.specs.Trees.{TheoryTree, SpecTree, ProgramTree}
 use Rattle.syn_model.specs.Correctness.{IsCorrect}
+use Rattle.syn_model.specs.Truth.{AxiomsHold}
 use Rattle.syn_app.specs.declared.readings.Row.{Row}
 use Rattle.syn_app.specs.declared.readings.Entry.{Entry}
 use Rattle.syn_app.specs.declared.replay.CheckError.{CheckError}
@@ -19,11 +20,11 @@ reading_names s = record { program = s.program.now; input = s.input.now; output 
 abbrev pub reading_spec : SpecReading → SpecTree
 reading_spec s = spec_of s.name.now (reading_names s) s.term
 
--- the entries are accepted, and the program is theirs and correct
+-- the entries are accepted, and the program is theirs and, where the axioms hold, correct
 pub record IsProven (theory : TheoryTree) (spec : SpecTree) (entries : List Entry) (p : ProgramTree) : Type 0 where
   pub accepted : IsAccepted theory spec entries
   pub program : accepted_program spec entries ≡ Some p
-  pub correct : IsCorrect theory spec p
+  pub correct : AxiomsHold theory → IsCorrect theory spec p
 
 -- why a derivation isn't accepted
 abbrev pub FailsCheck : SpecTree → List Entry → CheckError → Type 0

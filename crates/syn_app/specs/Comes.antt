@@ -89,7 +89,7 @@ pub record AreTexts (a b d : List ℕ) (theory : TheoryTree) (spec : SpecTree) (
 abbrev pub OfTexts : (TheoryTree → SpecTree → List Entry → Type 0) → List ℕ → List ℕ → List ℕ → Type 0
 OfTexts P a b d = (theory : TheoryTree) × ((spec : SpecTree) × ((input : List ℕ) × ((entries : List Entry) × (AreTexts a b d theory spec input entries × P theory spec entries))))
 
--- the derivation is accepted, and P holds of the printed text of its program, which is correct
+-- the derivation is accepted, its program is correct where the axioms hold, and P holds of its printed text
 abbrev pub Writing : (List ℕ → Type 0) → TheoryTree → SpecTree → List Entry → Type 0
 Writing P theory spec entries = (p : ProgramTree) × (IsProven theory spec entries p × P (printed_program theory p))
 
