@@ -18,3 +18,4 @@ pub mod Tables
 pub mod Staged
 pub mod Ending
 pub mod Exact
+pub mod Unique

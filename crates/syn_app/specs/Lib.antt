@@ -14,3 +14,4 @@ pub mod Printing
 pub mod Checks
 pub mod Comes
 pub mod Stages
+pub mod Settled

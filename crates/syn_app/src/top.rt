@@ -1,10 +1,12 @@
 // The top call: the words first, then the three files in their order, each read and then judged,
 // then the replay of the derivation and the write of its program.
-ghost use Rattle.std.specs.Prelude.{◌≡◌, ◌↔◌, ◌⊎◌, ℕ, [], map, string_bytes};
+ghost use Rattle.std.specs.Prelude.{◌≡◌, ◌↔◌, ◌⊎◌, ℕ, List, [], map, string_bytes};
 ghost use Rattle.syn_outside.specs.Faults.{Rose};
+ghost use Rattle.syn_outside.specs.Files.{File};
 ghost use Rattle.syn_outside.specs.Texts.{Adds, AddsPrefix};
-ghost use Rattle.syn_app.specs.Comes.{Comes, ComesFor, FaultOf, IsRefusal, LengthOf, OfFiles, OfTexts, Writing};
+ghost use Rattle.syn_app.specs.Comes.{AreWords, Comes, ComesFor, FaultOf, FileNames, IsRefusal, LengthOf, OfFiles, OfTexts, Writing};
 ghost use Rattle.syn_app.specs.Replay.{IsFirstToFail, IsUnfinished};
+ghost use Rattle.syn_app.specs.Settled.{IsQuiet, Settles};
 ghost use Rattle.syn_app.specs.Words.{IsNoCheck};
 
 use crate::command::{Names, check_names};
@@ -76,6 +78,12 @@ pub fn synth<C: Cabinet, S: Sink>(
     ensures not_follows { (k : ℕ) → result ≡ Status.NotFollows k → OfFiles (record { words = map string_bytes words.now; files = C.files cab.old; reads = C.read_faults cab.old; reads_after = C.read_faults cab.new; text = S.text out.old; text_after = S.text out.new; faults = S.faults out.old; faults_after = S.faults out.new }) (OfTexts (λ theory spec entries. IsFirstToFail spec entries k)) }
     ensures not_final { result ≡ Status.NotFinal → OfFiles (record { words = map string_bytes words.now; files = C.files cab.old; reads = C.read_faults cab.old; reads_after = C.read_faults cab.new; text = S.text out.old; text_after = S.text out.new; faults = S.faults out.old; faults_after = S.faults out.new }) (OfTexts IsUnfinished) }
     ensures write_fault { result ≡ Status.WriteFault → Rose (S.faults out.old) (S.faults out.new) }
+
+    // Exactly: where files are told, no fault is counted and no counter stands at its last value, the
+    // status is the one that the words and the files ask for, Done among them, or NoMemory. They ask
+    // for one at most.
+    ensures exact { (fs : List File) (n : FileNames) (r : Status) → IsQuiet (record { words = map string_bytes words.now; files = C.files cab.old; reads = C.read_faults cab.old; reads_after = C.read_faults cab.new; text = S.text out.old; text_after = S.text out.new; faults = S.faults out.old; faults_after = S.faults out.new }) fs → AreWords (record { words = map string_bytes words.now; files = C.files cab.old; reads = C.read_faults cab.old; reads_after = C.read_faults cab.new; text = S.text out.old; text_after = S.text out.new; faults = S.faults out.old; faults_after = S.faults out.new }) n → Settles fs n r → (result ≡ r) ⊎ (result ≡ Status.NoMemory) }
+    ensures one { (fs : List File) (n : FileNames) (r q : Status) → Settles fs n r → Settles fs n q → r ≡ q }
 
     // What stays: the files always; the sink's text after a refusal before the write. After a fault
     // or want of memory in the write some first bytes of the program's text were put.
