@@ -51,7 +51,10 @@ pub struct Outcome {
 fn file(alloc: Global, name: &str, bytes: &[u8]) -> Result<(String, Vec<u8>), AllocError>
     ensures { IfOk result (λ file. string_bytes file.0 ≡ name.now) }
 {
-    Ok((String::from_str(alloc, name)?, Vec::from_slice(alloc, bytes)?))
+    Ok((
+        String::from_str(alloc, name)?,
+        Vec::from_slice(alloc, bytes)?,
+    ))
 }
 
 fn files(alloc: Global, texts: Texts<'_>) -> Result<Vec<(String, Vec<u8>)>, AllocError>
@@ -133,7 +136,10 @@ pub fn assert_check<R: Abort>(
     let got = call(alloc, &WORDS, texts, 4096, &[])?;
     let text = format!(in alloc; "{OLD}{printed}")?;
     assert_eq!(rt; got.status, want, "{what}");
-    assert!(rt; got.text.as_slice() == text.as_bytes(), "the text, at {what}");
+    assert!(rt;
+        got.text.as_slice() == text.as_bytes(),
+        "the text, at {what}"
+    );
     assert!(rt; got.is_kept, "the files, at {what}");
     Ok(())
 }

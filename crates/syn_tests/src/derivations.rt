@@ -40,24 +40,39 @@ fn judges_second_rows(rt: HostRuntime) -> Result<(), Fail> {
         ("", Status::NotFinal),
         ("2 reflex 1 -: goal true | s(a)\n", Status::NotFollows(2)),
         ("2 reflex 2 -: goal true | a\n", Status::NotFollows(2)),
-        ("2 reflex 3 -: goal true | a\n3 reflex 1 -: goal true | a\n", Status::NotFollows(2)),
+        (
+            "2 reflex 3 -: goal true | a\n3 reflex 1 -: goal true | a\n",
+            Status::NotFollows(2),
+        ),
         ("2 reflex 0 -: goal true | a\n", Status::NotFollows(2)),
         ("2 reflex 9999999 -: goal true | a\n", Status::NotFollows(2)),
         ("2 goal: goal true | a\n", Status::NotFollows(2)),
         ("2 reflex 1 -: goal ?1 = a | ?1\n", Status::NotFollows(2)),
-        ("2 reflex 1 -: goal true | a\n3 reflex 2 -: goal true | a\n", Status::NotFollows(3)),
+        (
+            "2 reflex 1 -: goal true | a\n3 reflex 2 -: goal true | a\n",
+            Status::NotFollows(3),
+        ),
         ("2 goal: goal ?2 = a | ?2\n", Status::NotFinal),
-        ("2 reflex 1 -: goal true | a\n3 goal: goal ?1 = a | ?1\n", Status::NotFinal),
+        (
+            "2 reflex 1 -: goal true | a\n3 goal: goal ?1 = a | ?1\n",
+            Status::NotFinal,
+        ),
         ("2 reflex 1 -: goal tr", Status::BadDerivation(3)),
         ("2 reflex 1 -: goal true | a", Status::BadDerivation(3)),
         ("3 reflex 1 -: goal true | a\n", Status::BadDerivation(3)),
         ("02 reflex 1 -: goal true | a\n", Status::BadDerivation(3)),
         ("2 reflex 01 -: goal true | a\n", Status::BadDerivation(3)),
-        ("2 reflex 10000000 -: goal true | a\n", Status::BadDerivation(3)),
+        (
+            "2 reflex 10000000 -: goal true | a\n",
+            Status::BadDerivation(3),
+        ),
         ("2 reflex 1 -: goal true | 01\n", Status::BadDerivation(3)),
         ("2 reflex 1 -: goal true | 1001\n", Status::BadDerivation(3)),
         ("2 reflex 1 -: goal true | ?0\n", Status::BadDerivation(3)),
-        ("2 reflex 1 -: goal true | ?10000000\n", Status::BadDerivation(3)),
+        (
+            "2 reflex 1 -: goal true | ?10000000\n",
+            Status::BadDerivation(3),
+        ),
         ("2 reflex 1 -: goal true | b\n", Status::BadDerivation(3)),
         ("2 reflex 1 -: goal true | s(a\n", Status::BadDerivation(3)),
         ("2 reflex 1 -: goal true |  a\n", Status::BadDerivation(3)),
@@ -77,8 +92,16 @@ fn judges_beginnings(rt: HostRuntime) -> Result<(), Fail> {
         ("no line", b"", Status::BadDerivation(1)),
         ("the first line alone", b"derivation 1\n", Status::NotFinal),
         ("its beginning", b"derivation 1", Status::BadDerivation(1)),
-        ("another number", b"derivation 2\n", Status::BadDerivation(1)),
-        ("an empty line", b"derivation 1\n\n", Status::BadDerivation(2)),
+        (
+            "another number",
+            b"derivation 2\n",
+            Status::BadDerivation(1),
+        ),
+        (
+            "an empty line",
+            b"derivation 1\n\n",
+            Status::BadDerivation(2),
+        ),
         (
             "a last row without a goal",
             b"derivation 1\n1 reflex 1 -: goal true | a\n",
@@ -89,7 +112,11 @@ fn judges_beginnings(rt: HostRuntime) -> Result<(), Fail> {
             b"derivation 1\n1 goal: goal ?1 = a | ?2\n",
             Status::NotFollows(1),
         ),
-        ("a byte that is no text", b"derivation 1\n\xff\n", Status::BadDerivation(2)),
+        (
+            "a byte that is no text",
+            b"derivation 1\n\xff\n",
+            Status::BadDerivation(2),
+        ),
     ];
     for (what, deriv, want) in cases {
         assert_check(&rt, rt.alloc(), what, of(deriv), want, "")?;

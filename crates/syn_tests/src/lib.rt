@@ -8,6 +8,12 @@ mod bench;
 #[cfg(test)]
 mod derivations;
 #[cfg(test)]
+mod outside;
+#[cfg(test)]
 mod specifications;
+#[cfg(test)]
+mod statuses;
+#[cfg(test)]
+mod terms;
 #[cfg(test)]
 mod theories;

@@ -10,7 +10,9 @@ fn spec_of(alloc: Global, term: &str) -> Result<String, AllocError> {
 }
 
 fn deriv_of(alloc: Global, term: &str) -> Result<String, AllocError> {
-    format!(in alloc; "derivation 1\n1 goal: goal ?1 = {term} | ?1\n2 reflex 1 -: goal true | {term}\n")
+    format!(in alloc;
+        "derivation 1\n1 goal: goal ?1 = {term} | ?1\n2 reflex 1 -: goal true | {term}\n"
+    )
 }
 
 // `s(..)` so many times round the input.
@@ -30,7 +32,16 @@ fn nested(alloc: Global, count: usize) -> Result<String, AllocError> {
 fn prints_bodies(rt: HostRuntime) -> Result<(), Fail> {
     let alloc = rt.alloc();
     let deepest = nested(alloc, 1198)?;
-    for term in ["a", "0", "3", "1000", "s(1000)", "s(a)", "s(s(a))", deepest.as_str()] {
+    for term in [
+        "a",
+        "0",
+        "3",
+        "1000",
+        "s(1000)",
+        "s(a)",
+        "s(s(a))",
+        deepest.as_str(),
+    ] {
         let spec = spec_of(alloc, term)?;
         let deriv = deriv_of(alloc, term)?;
         let texts = Texts {
@@ -59,7 +70,19 @@ fn prints_names(rt: HostRuntime) -> Result<(), Fail> {
 fn refuses_conditions(rt: HostRuntime) -> Result<(), Fail> {
     let alloc = rt.alloc();
     let too_deep = nested(alloc, 1199)?;
-    for term in ["?1", "1001", "01", "b", "z", "same", "s(a", "s a", "s()", "", too_deep.as_str()] {
+    for term in [
+        "?1",
+        "1001",
+        "01",
+        "b",
+        "z",
+        "same",
+        "s(a",
+        "s a",
+        "s()",
+        "",
+        too_deep.as_str(),
+    ] {
         let spec = spec_of(alloc, term)?;
         let texts = Texts {
             spec: spec.as_bytes(),
@@ -77,8 +100,14 @@ fn refuses_specifications(rt: HostRuntime) -> Result<(), Fail> {
         ("spec nat\n", 1),
         ("spec same\n", 2),
         ("spec x\nensures z = a\n", 2),
-        ("spec x\nprogram same(same: nat): z: nat\nensures z = same\n", 2),
-        ("spec x\nprogram same(a: nat): same: nat\nensures same = a\n", 2),
+        (
+            "spec x\nprogram same(same: nat): z: nat\nensures z = same\n",
+            2,
+        ),
+        (
+            "spec x\nprogram same(a: nat): same: nat\nensures same = a\n",
+            2,
+        ),
         ("spec x\nprogram same(a: nat): a: nat\nensures a = a\n", 2),
         ("spec x\nprogram same(a: nat): z:nat\nensures z = a\n", 2),
         ("spec x\nprogram same(a: nat): z: nat\n", 3),
