@@ -1,3 +1,6 @@
+pub mod Parts
+pub mod NumberTexts
+pub mod TermTexts
 pub mod Closed
 pub mod Steps
 pub mod Correct
@@ -8,3 +11,9 @@ pub mod FourWords
 pub mod PrintedText
 pub mod PrintedBare
 pub mod Replays
+pub mod SpecTexts
+pub mod RowTexts
+pub mod Accepted
+pub mod Tables
+pub mod Staged
+pub mod Ending

@@ -214,7 +214,7 @@ module _ (t : TermTree) (spec : SpecTree) (target : IsTarget t spec) (before : L
   abbrev r : TermReading
   r = target.reading
 
-  follows_from : (s : Step) → StepGives t before s (bare_row row) → Follows spec before s row
+  pub follows_from : (s : Step) → StepGives t before s (bare_row row) → Follows spec before s row
   follows_from step.Goal g = goal_gives target.reading target.closed target.short spec target.condition row g.0 (g.1 ∙ ap (λ (z : TermTree). open_goal z g.0) target.is)
   follows_from (step.Reflex k) g = (
     open_goal t g.0.0,
@@ -229,7 +229,7 @@ module _ (t : TermTree) (spec : SpecTree) (target : IsTarget t spec) (before : L
   )
   reflects parent (inr s) g = absurd (reflex_solved target.reading target.closed target.short spec target.condition row (subst (λ (z : Row). ReflexGives z row) (s ∙ ap solved_goal target.is) g))
 
-  follows_to : (s : Step) → Follows spec before s row → StepGives t before s (bare_row row)
+  pub follows_to : (s : Step) → Follows spec before s row → StepGives t before s (bare_row row)
   follows_to step.Goal g =
       let h = goal_only target.reading target.closed target.short spec target.condition row g in
       (h.0, h.1 ∙ ap (λ (z : TermTree). open_goal z h.0) (sym target.is))

@@ -4,9 +4,13 @@ pub mod Terms
 pub mod TheoryText
 pub mod SpecText
 pub mod DerivationText
+pub mod Readers
 pub mod Rows
 pub mod Replay
 pub mod Shapes
 pub mod Status
 pub mod Words
 pub mod Printing
+pub mod Checks
+pub mod Comes
+pub mod Stages

@@ -1,11 +1,13 @@
 -- What the printer's contracts cite beside the printed text: the program with one number as its input, and its symbols.
 use Rattle.std.specs.Prelude.{ℕ, ◌+◌, List, [], ◌∷◌, ◌++◌, Option, None, Some, if◌then◌else◌, nat_lt}
 use Rattle.syn_term.specs.declared.sorts.Sort.TheVariants as sort
+use Rattle.syn_term.specs.declared.sorts.Sym.{Sym}
+use Rattle.syn_term.specs.declared.sorts.Kind.TheVariants as kind
 use Rattle.syn_term.specs.declared.term.Node.{fold-Node}
 use Rattle.syn_term.specs.Symbols.{SymbolTable, first_symbols}
 use Rattle.syn_term.specs.Terms.{TermTree, bare}
 use Rattle.syn_model.specs.declared.trees.Out.TheVariants as out
-use Rattle.syn_model.specs.Trees.{ProgramTree, input_symbol, program_symbol}
+use Rattle.syn_model.specs.Trees.{ProgramTree, input_symbol}
 use Rattle.syn_model.specs.ProgramText.{Printed, print_step}
 use Rattle.syn_app.specs.SpecText.{nat_declared}
 
@@ -27,9 +29,16 @@ nat_program name input body = record {
   body = out.Give (bare body);
 }
 
+-- the program symbol and the input of it
+abbrev pub nat_program_symbol : List ℕ → Sym
+nat_program_symbol name = record { name = name; kind = kind.Program; args = sort.Nat ∷ []; result = Some sort.Nat }
+
+abbrev pub nat_input_symbol : List ℕ → Sym
+nat_input_symbol name = input_symbol (nat_declared name)
+
 -- its symbols: `0` and `s`, the program symbol, the input. A theory adds none yet
 abbrev pub nat_program_symbols : List ℕ → List ℕ → SymbolTable
 nat_program_symbols name input = record {
-  syms = first_symbols.syms ++ program_symbol name (nat_declared input ∷ []) sort.Nat ∷ input_symbol (nat_declared input) ∷ [];
+  syms = first_symbols.syms ++ nat_program_symbol name ∷ nat_input_symbol input ∷ [];
   sorts = first_symbols.sorts;
 }

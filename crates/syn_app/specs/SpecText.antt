@@ -85,3 +85,7 @@ pub record IsSpecText (bytes : List ℕ) (spec : SpecTree) : Type 0 where
   pub are_names : AreProgramNames names
   pub condition : IsCondition term
   pub is : spec ≡ spec_of name names term
+
+-- the specification has this one input
+abbrev pub HasInput : SpecTree → List ℕ → Type 0
+HasInput spec input = spec.inputs ≡ nat_declared input ∷ []

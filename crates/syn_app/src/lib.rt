@@ -2,15 +2,23 @@
 //! and a sink.
 #![tactic(auto)]
 
+mod check;
 mod command;
+mod derivation_text;
+mod lines;
+mod numbers;
 mod printing;
 mod readings;
 mod replay;
 mod rows;
+mod spec_text;
+mod stages;
 mod status;
-mod synth;
+mod terms;
+mod theory_text;
+mod top;
 
 pub use command::{Command, command_of};
 pub use readings::{Base, Entry, FormReading, Row, RowReading, Step, TermReading};
 pub use status::{Status, Which, status_code, status_line};
-pub use synth::synth;
+pub use top::synth;

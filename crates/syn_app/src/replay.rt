@@ -164,7 +164,7 @@ fn keep(rows: &mut Vec<Row>, row: Row) -> Result<(), NoMemory>
 
 /// The rows, simplified, each of which follows from those before it.
 #[tactic(auto, using(crate::proofs::Growth::growth))]
-fn replay(
+pub(crate) fn replay(
     alloc: Global,
     bank: &mut Bank,
     syms: &Symbols,

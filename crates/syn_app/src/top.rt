@@ -10,6 +10,9 @@ pub fn synth<C: Cabinet, S: Sink>(
     cab: &mut C,
     out: &mut S,
 ) -> Status {
-    let _ = (alloc, words, cab, out);
+    let _ = alloc;
+    let _ = words;
+    let _ = cab;
+    let _ = out;
     Status::NoMemory
 }

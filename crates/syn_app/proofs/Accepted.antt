@@ -1,0 +1,226 @@
+-- From the shapes of rows to accepted derivations and correct programs.
+use Rattle.std.proofs.Common.{◌≡◌, ◌≢◌, ℕ, zero, suc, ◌+◌, ◌<◌, ◌≤◌, max, Bool, true, false, ◌&&◌, List, [], ◌∷◌, ◌++◌, Option, Some, None, map, take, length, slice_get, refl, sym, ◌∙◌, ap, subst, arith, inl, inr, ◌⊎◌, MatchOption}
+use Rattle.std.specs.Option.{option_map}
+use Rattle.std.specs.List.{list_all}
+use Rattle.std.proofs.lemmas.List.{map-append, length-map, take_all}
+use Rattle.syn_term.specs.declared.sorts.SymId.{SymId}
+use Rattle.syn_term.specs.declared.sorts.Sort.TheVariants as sort
+use Rattle.syn_term.specs.declared.term.Node.{fold-Node}
+use Rattle.syn_term.specs.declared.term.Node.TheOpen.{Node-F}
+use Rattle.syn_term.specs.Terms.{TermTree, application, nowhere, bare, depth_of, depth_step}
+use Rattle.syn_term.specs.Symbols.{SymbolTable, symbol_at}
+use Rattle.syn_term.proofs.Trees.{fold-App, fold-Var}
+use Rattle.syn_model.specs.declared.trees.Form.TheVariants as form
+use Rattle.syn_model.specs.declared.trees.Out.TheVariants as out
+use Rattle.syn_model.specs.Trees.{FormTree, OutTree, TheoryTree, SpecTree, ProgramTree, spec_symbols}
+use Rattle.syn_model.specs.Primitive.{IsPrimitiveTerm, primitive_step, primitive_symbol}
+use Rattle.syn_model.specs.Correctness.{IsCorrect}
+use Rattle.syn_app.specs.declared.readings.Base.{Base}
+use Rattle.syn_app.specs.declared.readings.Base.TheVariants as base
+use Rattle.syn_app.specs.declared.readings.Row.{Row}
+use Rattle.syn_app.specs.declared.readings.RowReading.{RowReading}
+use Rattle.syn_app.specs.declared.readings.TermReading.{TermReading}
+use Rattle.syn_app.specs.declared.readings.FormReading.{FormReading}
+use Rattle.syn_app.specs.declared.readings.FormReading.TheVariants as reading
+use Rattle.syn_app.specs.declared.readings.Entry.{Entry}
+use Rattle.syn_app.specs.declared.replay.CheckError.{CheckError}
+use Rattle.syn_app.specs.declared.replay.CheckError.TheVariants as error
+use Rattle.syn_app.specs.DerivationText.{entry_of, form_tree, row_tree}
+use Rattle.syn_app.specs.Limits.{FitsForm}
+use Rattle.syn_app.specs.Printing.{nat_program}
+use Rattle.syn_app.specs.Rows.{bare_form, bare_row, simplified_row}
+use Rattle.syn_app.specs.Replay.{Follows, FollowsAt, IsAccepted, IsFinal, IsFirstToFail, IsUnfinished, accepted_program, closed_term, last_row, program_of_row, row_at, simplified_entry, simplified_rows}
+use Rattle.syn_app.specs.Shapes.{AreShaped, FirstUnshaped, HasShape, IsFirstUnshaped, IsTarget, ShapedAt, StepGives, row_variable, solved_goal}
+use Rattle.syn_app.specs.SpecText.{IsCondition, ProgramNames, ensures_of, nat_declared, spec_of}
+use Rattle.syn_app.specs.Checks.{EndsOtherwise, EndsWith, FailsCheck, IsProven}
+use Rattle.syn_app.specs.Terms.{IsClosed, base_tree, input_id, succ_id, successors_of, term_size, term_tree, zero_id}
+use Rattle.syn_app.proofs.Closed.{closed_term-closed, depth_of-term_tree, bare-term_tree}
+use Rattle.syn_app.proofs.Correct.{solved_correct, solved_program}
+use Rattle.syn_app.proofs.Numbered.{step_shape, same_entry, shapes_before}
+use Rattle.syn_app.proofs.Simplified.{bare_row-simplified}
+use Rattle.syn_app.proofs.Steps.{follows_from, follows_to}
+
+-- the program with this body
+abbrev nat_body : ProgramNames → TermTree → ProgramTree
+nat_body n body = record { name = n.program; inputs = nat_declared n.input ∷ []; result = sort.Nat; body = out.Give body }
+
+-- the condition's term is the target of its specification
+pub is_target : (name : List ℕ) (n : ProgramNames) (r : TermReading) (t : TermTree) → IsCondition r → t ≡ term_tree r → IsTarget t (spec_of name n r)
+is_target name n r t condition is =
+    let d = depth_of-term_tree r in
+    let fits : FitsForm (ensures_of r) = condition.fits in
+    let deep : 1 + max (depth_of _) (depth_of (term_tree r)) ≤ 1200 = fits.1 in
+    record { reading = r; closed = condition.closed; short = omega arith; is = is; condition = refl }
+
+-- a row that was read has no places once it is simplified
+bare-form : (f : FormReading) → bare_form (form_tree f) ≡ form_tree f
+bare-form reading.True = refl
+bare-form (reading.Equal s u) = let a = bare-term_tree s in let b = bare-term_tree u in cc
+
+bare-tree : (r : RowReading) → bare_row (row_tree r) ≡ row_tree r
+bare-tree r = let a = bare-form r.form in let b = bare-term_tree r.out in cc
+
+entry_bare : (rows : List RowReading) (i : ℕ) (e : Entry) → slice_get (map entry_of rows) i ≡ Some e → bare_row (simplified_row e.row) ≡ simplified_row e.row
+entry_bare [] i e h = absurd (cc)
+entry_bare (r ∷ rs) zero e h =
+    let same : entry_of r ≡ e = cc in
+    subst (λ (z : Entry). bare_row (simplified_row z.row) ≡ simplified_row z.row) same (bare_row-simplified (row_tree r) ∙ ap simplified_row (bare-tree r))
+entry_bare (r ∷ rs) (suc i) e h = entry_bare rs i e h
+
+module _ (rows : List RowReading) (t : TermTree) (spec : SpecTree) (target : IsTarget t spec) where
+  shaped_follows : (i : ℕ) → AreShaped t (map entry_of rows) i → ShapedAt t (map entry_of rows) i → FollowsAt spec (map entry_of rows) i
+  shaped_follows i before s = (
+    s.0,
+    s.1,
+    follows_from t spec target (take i (simplified_rows (map entry_of rows))) (shapes_before t (map entry_of rows) i before) (simplified_row s.0.row) s.0.step
+        (subst (λ (z : Row). StepGives t (take i (simplified_rows (map entry_of rows))) s.0.step z) (sym (entry_bare rows i s.0 s.1)) s.2),
+  )
+
+  follows_shaped : (i : ℕ) → AreShaped t (map entry_of rows) i → FollowsAt spec (map entry_of rows) i → ShapedAt t (map entry_of rows) i
+  follows_shaped i before f = (
+    f.0,
+    f.1,
+    subst (λ (z : Row). StepGives t (take i (simplified_rows (map entry_of rows))) f.0.step z) (entry_bare rows i f.0 f.1)
+        (follows_to t spec target (take i (simplified_rows (map entry_of rows))) (shapes_before t (map entry_of rows) i before) (simplified_row f.0.row) f.0.step f.2),
+  )
+
+  all_follow : (n : ℕ) → AreShaped t (map entry_of rows) n → (i : ℕ) → i < n → FollowsAt spec (map entry_of rows) i
+  all_follow n shaped i lt = shaped_follows i (λ k le. shaped k (omega arith)) (shaped i lt)
+
+  -- the first row without its shape is the first that doesn't follow
+  pub first_fails : (e : CheckError) → FirstUnshaped t (map entry_of rows) e → FailsCheck spec (map entry_of rows) e
+  first_fails (error.NotFollows n) h = record {
+    at = h.at;
+    is = h.is;
+    within = h.within;
+    before = all_follow h.at h.before;
+    fails = λ f. h.fails (follows_shaped h.at h.before f);
+  }
+  first_fails error.NotFinal h = absurd h
+  first_fails error.NoMemory h = tt
+
+slice_get-last : (xs : List Row) (y : Row) → slice_get (xs ++ y ∷ []) (length xs) ≡ Some y
+slice_get-last [] y = refl
+slice_get-last (x ∷ xs) y = slice_get-last xs y
+
+length-last : (xs : List Row) (y : Row) → length (xs ++ y ∷ []) ≡ suc (length xs)
+length-last [] y = refl
+length-last (x ∷ xs) y = ap suc (length-last xs y)
+
+-- the last of some rows, by its number
+row_at-last : (xs : List Row) (y : Row) (n : ℕ) → n ≡ length (xs ++ y ∷ []) → row_at (xs ++ y ∷ []) n ≡ Some y
+row_at-last xs y n e = ap (row_at (xs ++ y ∷ [])) (e ∙ length-last xs y) ∙ slice_get-last xs y
+
+last_split : (k : Row) (more : List Row) (row : Row) → slice_get (map bare_row (k ∷ more)) (length more) ≡ Some row → (before : List Row) × ((l : Row) × ((k ∷ more ≡ before ++ l ∷ []) × (bare_row l ≡ row)))
+last_split k [] row h = ([], (k, (refl, cc)))
+last_split k (j ∷ more) row h = let r = last_split j more row h in (k ∷ r.0, (r.1.0, (ap (λ (z : List Row). k ∷ z) r.1.1.0, r.1.1.1)))
+
+solved_from : (f : FormTree) (o : OutTree) → bare_form f ≡ form.True → (y : TermTree) × (◌≡◌ {A = Row} (record { form = f; out = o }) (solved_goal y))
+solved_from form.True (out.Give y) h = (y, refl)
+solved_from (form.Equal s u) o h = absurd (cc)
+
+-- a last row that is `true` is at the end of the rows
+last_solved : (kept : List Row) (n : ℕ) (row : Row) → n ≡ length kept → row_at (map bare_row kept) n ≡ Some row → row.form ≡ form.True → (y : TermTree) × EndsWith kept y
+last_solved [] zero row e h is = absurd (cc)
+last_solved [] (suc n) row e h is = absurd (cc)
+last_solved (k ∷ more) zero row e h is = absurd (cc)
+last_solved (k ∷ more) (suc n) row e h is =
+    let m : n ≡ length more = omega arith in
+    let split = last_split k more row (ap (slice_get (map bare_row (k ∷ more))) (sym m) ∙ h) in
+    let l = split.1.0 in
+    let s = solved_from l.form l.out (ap (λ (z : Row). z.form) split.1.1.1 ∙ is) in
+    (s.0, (split.0, split.1.1.0 ∙ ap (λ (z : Row). split.0 ++ z ∷ []) s.1))
+
+primitive-by : (table : SymbolTable) (f : SymId) (args : List TermTree) (b : Bool) → primitive_symbol (symbol_at table f) ≡ true → list_all (λ b. b) (map (fold-Node Bool (primitive_step table)) args) ≡ true → IsPrimitiveTerm table (application f args)
+primitive-by table f args b is all = fold-App (primitive_step table) nowhere f args ∙ (ap (λ (z : Bool). z && list_all (λ b. b) (map (fold-Node Bool (primitive_step table)) args)) is ∙ all)
+
+module _ (table : SymbolTable) (zero_is : primitive_symbol (symbol_at table zero_id) ≡ true) (succ_is : primitive_symbol (symbol_at table succ_id) ≡ true) (input_is : primitive_symbol (symbol_at table input_id) ≡ true) where
+  successors-primitive : (n : ℕ) (u : TermTree) → IsPrimitiveTerm table u → IsPrimitiveTerm table (successors_of n u)
+  successors-primitive zero u h = h
+  successors-primitive (suc n) u h =
+      primitive-by table succ_id (successors_of n u ∷ []) true succ_is (ap (λ (z : Bool). z && true) (successors-primitive n u h))
+
+  base-primitive : (b : Base) → IsClosed b → IsPrimitiveTerm table (base_tree b)
+  base-primitive base.Input h = primitive-by table input_id [] true input_is refl
+  base-primitive (base.Number n) h = successors-primitive n (application zero_id []) (primitive-by table zero_id [] true zero_is refl)
+  base-primitive (base.RowVariable n) h = absurd h
+
+  closed-primitive : (r : TermReading) → IsClosed r.base → IsPrimitiveTerm table (term_tree r)
+  closed-primitive r h = successors-primitive r.successors (base_tree r.base) (base-primitive r.base h)
+
+module _ (theory : TheoryTree) (name : List ℕ) (n : ProgramNames) (r : TermReading) (condition : IsCondition r) (t : TermTree) (is : t ≡ term_tree r) (rows : List RowReading) (kept : List Row) (same : map bare_row kept ≡ simplified_rows (map entry_of rows)) (shaped : AreShaped t (map entry_of rows) (length rows)) where
+  abbrev entries : List Entry
+  entries = map entry_of rows
+
+  spec_is : IsTarget t (spec_of name n r)
+  spec_is = is_target name n r t condition is
+
+  many : length (map entry_of rows) ≡ length kept
+  many = let a = length-map kept bare_row in let b = length-map (map entry_of rows) simplified_entry in let c = ap length same in omega arith
+
+  follow : (i : ℕ) → i < length (map entry_of rows) → FollowsAt (spec_of name n r) (map entry_of rows) i
+  follow i lt = all_follow rows t (spec_of name n r) spec_is (length rows) shaped i (let a = length-map rows entry_of in omega arith)
+
+  -- the last row is not `true`
+  pub unfinished : EndsOtherwise kept → IsUnfinished theory (spec_of name n r) (map entry_of rows)
+  unfinished none = record {
+    follow = follow;
+    unfinished = λ row last final.
+        let h : row_at (map bare_row kept) (length (map entry_of rows)) ≡ Some row = ap (λ (z : List Row). row_at z (length (map entry_of rows))) same ∙ last in
+        let s = last_solved kept (length (map entry_of rows)) row many h final.goal in none s.0 s.1;
+  }
+
+  module _ (x : TermTree) (ends : EndsWith kept x) where
+    rows_are : simplified_rows (map entry_of rows) ≡ map bare_row ends.0 ++ solved_goal (bare x) ∷ []
+    rows_are = sym same ∙ (ap (map bare_row) ends.1 ∙ map-append bare_row ends.0 (solved_goal x ∷ []))
+
+    last_is : last_row (map entry_of rows) ≡ Some (solved_goal (bare x))
+    last_is =
+        let e : length (map entry_of rows) ≡ length (map bare_row ends.0 ++ solved_goal (bare x) ∷ []) = sym (length-map (map entry_of rows) simplified_entry) ∙ ap length rows_are in
+        ap (λ (z : List Row). row_at z (length (map entry_of rows))) rows_are ∙ row_at-last (map bare_row ends.0) (solved_goal (bare x)) (length (map entry_of rows)) e
+
+    solved_tree : (row : Row) → row ≡ solved_goal (bare x) → HasShape t row → bare x ≡ t
+    solved_tree row e (inl o) = let k : form.True ≡ form.Equal (row_variable o.0) t = ap (λ (z : Row). z.form) (sym e ∙ o.1) in absurd (cc)
+    solved_tree row e (inr s) = let k : out.Give (bare x) ≡ out.Give t = ap (λ (z : Row). z.out) (sym e ∙ s) in cc
+
+    body_is : bare x ≡ term_tree r
+    body_is =
+        let whole : take (length rows) (simplified_rows (map entry_of rows)) ≡ simplified_rows (map entry_of rows) = take_all (length rows) (simplified_rows (map entry_of rows)) (let a = length-map (map entry_of rows) simplified_entry in let b = length-map rows entry_of in omega arith) in
+        let h : row_at (take (length rows) (simplified_rows (map entry_of rows))) (length (map entry_of rows)) ≡ Some (solved_goal (bare x)) = ap (λ (z : List Row). row_at z (length (map entry_of rows))) whole ∙ last_is in
+        solved_tree (solved_goal (bare x)) refl (shapes_before t (map entry_of rows) (length rows) shaped (length (map entry_of rows)) (solved_goal (bare x)) h) ∙ is
+
+    program_is : nat_program n.program n.input x ≡ solved_program n r
+    program_is = ap (λ (z : TermTree). nat_body n z) body_is
+
+    closed_is : closed_term (bare x) ≡ bare x
+    closed_is = ap closed_term body_is ∙ (closed_term-closed r condition.closed ∙ sym body_is)
+
+    -- the derivation is accepted, and its program is correct
+    pub proven : IsProven theory (spec_of name n r) (map entry_of rows) (nat_program n.program n.input x)
+    proven = record {
+      accepted = record {
+        follow = follow;
+        last = solved_goal (bare x);
+        is_last = last_is;
+        final = record {
+          goal = refl;
+          output = subst (IsPrimitiveTerm (spec_symbols theory (spec_of name n r))) (sym body_is) (closed-primitive (spec_symbols theory (spec_of name n r)) refl refl refl r condition.closed);
+        };
+      };
+      program = ap (option_map (program_of_row (spec_of name n r))) last_is ∙ ap (λ (z : TermTree). Some (nat_body n z)) closed_is;
+      correct = subst (IsCorrect theory (spec_of name n r)) (sym program_is) (solved_correct theory name n r condition.closed);
+    }
+
+no_items : (ys : List Row) (y : Row) → ◌≡◌ {A = List Row} [] (ys ++ y ∷ []) → ⊥
+no_items ys y e = let h = ap length e in let k = length-last ys y in omega arith
+
+last_same : (xs ys : List Row) (x y : Row) → xs ++ x ∷ [] ≡ ys ++ y ∷ [] → x ≡ y
+last_same [] [] x y e = cc
+last_same [] (b ∷ bs) x y e = absurd (no_items bs y (cc))
+last_same (a ∷ us) [] x y e = absurd (no_items us x (cc))
+last_same (a ∷ us) (b ∷ bs) x y e = last_same us bs x y (cc)
+
+-- the output of the last row is that of the rows
+pub last_answer : (rows before : List Row) (row : Row) (o : Option TermTree) → rows ≡ before ++ row ∷ [] → MatchOption o ((t : TermTree) → ¬ (row ≡ solved_goal t)) (λ t. row ≡ solved_goal t) → MatchOption o (EndsOtherwise rows) (EndsWith rows)
+last_answer rows before row None e h = λ t ends. h t (last_same before ends.0 row (solved_goal t) (sym e ∙ ends.1))
+last_answer rows before row (Some t) e h = (before, e ∙ ap (λ (z : Row). before ++ z ∷ []) h)

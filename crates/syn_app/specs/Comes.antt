@@ -1,0 +1,127 @@
+-- When each status of the top call comes. Each case says the whole way to its place in the order of the work: the
+-- words; the theory read, then its text; the specification read, then its text; the derivation read, then its text; the
+-- replay; the write. So where files are told the cases exclude one another.
+use Rattle.std.specs.Prelude.{◌≡◌, ◌⊎◌, ℕ, ◌<◌, ◌≤◌, List, Option, length}
+use Rattle.syn_outside.specs.Files.{File, Told}
+use Rattle.syn_outside.specs.Faults.{HasCause, Rose}
+use Rattle.syn_outside.specs.Texts.{Adds, AddsPrefix}
+use Rattle.syn_model.specs.Trees.{TheoryTree, SpecTree, ProgramTree}
+use Rattle.syn_model.specs.ProgramText.{printed_program}
+use Rattle.syn_app.specs.declared.readings.Entry.{Entry}
+use Rattle.syn_app.specs.declared.status.Status.{Status}
+use Rattle.syn_app.specs.declared.status.Status.TheVariants as status
+use Rattle.syn_app.specs.declared.status.Which.{Which}
+use Rattle.syn_app.specs.declared.status.Which.TheVariants as which
+use Rattle.syn_app.specs.Lines.{IsFirstBad}
+use Rattle.syn_app.specs.Words.{IsCheck, IsNoCheck}
+use Rattle.syn_app.specs.TheoryText.{ExtendsTheory, IsTheoryText, WholeTheory}
+use Rattle.syn_app.specs.SpecText.{ExtendsSpec, HasInput, IsSpecText, WholeSpec}
+use Rattle.syn_app.specs.DerivationText.{ExtendsDerivation, IsDerivationText, WholeDerivation}
+use Rattle.syn_app.specs.Replay.{IsFirstToFail, IsUnfinished}
+use Rattle.syn_app.specs.Checks.{IsProven}
+
+-- what a call found and what it left: the words, the files, the faults of reading before and after, the sink's text
+-- before and after, and its faults before and after
+pub record Scene : Type 0 where
+  pub words : List (List ℕ)
+  pub files : Option (List File)
+  pub reads : ℕ
+  pub reads_after : ℕ
+  pub text : Option (List ℕ)
+  pub text_after : Option (List ℕ)
+  pub faults : ℕ
+  pub faults_after : ℕ
+
+-- the names of the three files
+pub record FileNames : Type 0 where
+  pub theory : List ℕ
+  pub spec : List ℕ
+  pub deriv : List ℕ
+
+abbrev pub file_name : FileNames → Which → List ℕ
+file_name n which.Theory = n.theory
+file_name n which.Spec = n.spec
+file_name n which.Derivation = n.deriv
+
+abbrev pub AreWords : Scene → FileNames → Type 0
+AreWords s n = IsCheck s.words n.theory n.spec n.deriv
+
+-- a file of at most 4,194,304 bytes, and one of more
+abbrev pub IsShort : List ℕ → Type 0
+IsShort bytes = length bytes ≤ 4194304
+
+abbrev pub IsLong : List ℕ → Type 0
+IsLong bytes = 4194304 < length bytes
+
+-- the bytes of the file have the property, where files are told
+abbrev pub OfTheory : Scene → FileNames → (List ℕ → Type 0) → Type 0
+OfTheory s n P = Told P s.files n.theory
+
+abbrev pub OfSpec : Scene → FileNames → (List ℕ → List ℕ → Type 0) → Type 0
+OfSpec s n P = OfTheory s n (λ a. Told (P a) s.files n.spec)
+
+abbrev pub OfDerivation : Scene → FileNames → (List ℕ → List ℕ → List ℕ → Type 0) → Type 0
+OfDerivation s n P = OfSpec s n (λ a b. Told (P a b) s.files n.deriv)
+
+-- the bytes are a text, short enough, of this theory, this specification, this derivation
+abbrev pub ReadsTheory : List ℕ → TheoryTree → Type 0
+ReadsTheory a theory = IsShort a × IsTheoryText a theory
+
+abbrev pub ReadsSpec : List ℕ → SpecTree → Type 0
+ReadsSpec b spec = IsShort b × IsSpecText b spec
+
+-- the first text is of some theory, and the second of some specification
+abbrev pub GoodTheory : List ℕ → Type 0
+GoodTheory a = (theory : TheoryTree) × ReadsTheory a theory
+
+abbrev pub GoodSpec : List ℕ → List ℕ → Type 0
+GoodSpec a b = GoodTheory a × ((spec : SpecTree) × ReadsSpec b spec)
+
+-- the texts of a theory, a specification and a derivation for its input, all short enough
+pub record AreTexts (a b d : List ℕ) (theory : TheoryTree) (spec : SpecTree) (input : List ℕ) (entries : List Entry) : Type 0 where
+  pub theory_text : ReadsTheory a theory
+  pub spec_text : ReadsSpec b spec
+  pub input_is : HasInput spec input
+  pub short : IsShort d
+  pub derivation_text : IsDerivationText input d entries
+
+-- the texts are those of a derivation of which P holds
+abbrev pub OfTexts : (TheoryTree → SpecTree → List Entry → Type 0) → List ℕ → List ℕ → List ℕ → Type 0
+OfTexts P a b d = (theory : TheoryTree) × ((spec : SpecTree) × ((input : List ℕ) × ((entries : List Entry) × (AreTexts a b d theory spec input entries × P theory spec entries))))
+
+-- the derivation is accepted, and P holds of the printed text of its program, which is correct
+abbrev pub Writing : (List ℕ → Type 0) → TheoryTree → SpecTree → List Entry → Type 0
+Writing P theory spec entries = (p : ProgramTree) × (IsProven theory spec entries p × P (printed_program theory p))
+
+-- some first bytes of the program's text were put
+abbrev pub WritesPart : Scene → FileNames → Type 0
+WritesPart s n = OfDerivation s n (OfTexts (Writing (AddsPrefix s.text s.text_after)))
+
+-- when the status comes, for these names
+abbrev pub ComesFor : Scene → FileNames → Status → Type 0
+ComesFor s n status.Words = ⊥
+ComesFor s n (status.ReadFault which.Theory) = HasCause s.reads s.reads_after s.files n.theory
+ComesFor s n (status.TooLong which.Theory) = OfTheory s n IsLong
+ComesFor s n (status.BadTheory k) = OfTheory s n (λ a. IsShort a × IsFirstBad ExtendsTheory WholeTheory a k)
+ComesFor s n (status.ReadFault which.Spec) = OfTheory s n GoodTheory × HasCause s.reads s.reads_after s.files n.spec
+ComesFor s n (status.TooLong which.Spec) = OfSpec s n (λ a b. GoodTheory a × IsLong b)
+ComesFor s n (status.BadSpec k) = OfSpec s n (λ a b. GoodTheory a × (IsShort b × IsFirstBad ExtendsSpec WholeSpec b k))
+ComesFor s n (status.ReadFault which.Derivation) = OfSpec s n GoodSpec × HasCause s.reads s.reads_after s.files n.deriv
+ComesFor s n (status.TooLong which.Derivation) = OfDerivation s n (λ a b d. GoodSpec a b × IsLong d)
+ComesFor s n (status.BadDerivation k) = OfDerivation s n (λ a b d. GoodTheory a × ((spec : SpecTree) × (ReadsSpec b spec × ((input : List ℕ) × (HasInput spec input × (IsShort d × IsFirstBad (ExtendsDerivation input) WholeDerivation d k))))))
+ComesFor s n (status.NotFollows k) = OfDerivation s n (OfTexts (λ theory spec entries. IsFirstToFail spec entries k))
+ComesFor s n status.NotFinal = OfDerivation s n (OfTexts IsUnfinished)
+ComesFor s n status.WriteFault = WritesPart s n × Rose s.faults s.faults_after
+ComesFor s n status.NoMemory = (s.text_after ≡ s.text) ⊎ WritesPart s n
+ComesFor s n status.Done = OfDerivation s n (OfTexts (Writing (Adds s.text s.text_after)))
+
+-- when the status comes
+abbrev pub Comes : Scene → Status → Type 0
+Comes s r = (IsNoCheck s.words × (r ≡ status.Words)) ⊎ ((n : FileNames) × (AreWords s n × ComesFor s n r))
+
+-- a refusal before the write
+abbrev pub IsRefusal : Status → Type 0
+IsRefusal status.Done = ⊥
+IsRefusal status.WriteFault = ⊥
+IsRefusal status.NoMemory = ⊥
+IsRefusal _ = Unit {0}
