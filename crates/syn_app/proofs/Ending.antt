@@ -109,15 +109,16 @@ module _ (s : Scene) (n : FileNames) where
       of_print P h =
           of_texts (Writing P)
           (told_with (λ d. IsShort d × ((text : List ℕ) × (Prints spec d text × P text))) (λ d. IsShort d × OfEntries spec (λ entries. (theory : TheoryTree) → Writing P theory (reading_spec spec) entries) d) s.files n.deriv
-           (λ d k.
-              let text = k.1.0 in
-              let prints = k.1.1.0 in
-              (k.0, (prints.0, (prints.1.0, (λ t. let g = prints.1.1 t in (g.0, (g.1.0, subst P g.1.1 k.1.1.1))))))) h)
+          (λ d k.
+          let text = k.1.0 in
+          let prints = k.1.1.0 in
+          (k.0, (prints.0, (prints.1.0, (λ t. let g = prints.1.1 t in (g.0, (g.1.0, subst P g.1.1 k.1.1.1))))))) h)
 
       pub derivation_comes : (from : ℕ) → s.reads ≤ from → (e : Status) → DerivationEnds spec from s.reads_after s.files n.deriv s.text s.text_after s.faults s.faults_after e → ComesFor s n e
-      derivation_comes from le (status.ReadFault which.Derivation) h =
-          ( told_two GoodTheory (λ b. ReadsSpec b (reading_spec spec)) GoodSpec s.files n.theory n.spec (λ a b p q. (p, (reading_spec spec, q))) theory spec_is
-          , wider s.reads from s.reads_after s.reads_after s.files n.deriv le (omega arith) h )
+      derivation_comes from le (status.ReadFault which.Derivation) h = (
+        told_two GoodTheory (λ b. ReadsSpec b (reading_spec spec)) GoodSpec s.files n.theory n.spec (λ a b p q. (p, (reading_spec spec, q))) theory spec_is,
+        wider s.reads from s.reads_after s.reads_after s.files n.deriv le (omega arith) h,
+      )
       derivation_comes from le (status.TooLong which.Derivation) h =
           told_three GoodTheory (λ b. ReadsSpec b (reading_spec spec)) IsLong (λ a b d. GoodSpec a b × IsLong d) s.files n.theory n.spec n.deriv (λ a b d p q r. ((p, (reading_spec spec, q)), r)) theory spec_is h
       derivation_comes from le (status.BadDerivation k) h =
@@ -138,3 +139,11 @@ module _ (s : Scene) (n : FileNames) where
       derivation_comes from le (status.TooLong which.Spec) h = absurd h
       derivation_comes from le (status.BadTheory k) h = absurd h
       derivation_comes from le (status.BadSpec k) h = absurd h
+
+-- all the way: the files stay, and the faults of reading only rise
+pub check_comes : (files first second : Option (List File)) (reads reads_first reads_second reads_after : ℕ) (text text_after : Option (List ℕ)) (faults faults_after : ℕ) (n : FileNames) (bytes items : List ℕ) (spec : SpecReading) (e : Status) → first ≡ files → second ≡ first → reads ≤ reads_first → reads_first ≤ reads_second → Told GoodTheory files n.theory → bytes ≡ items → IsLoaded first n.spec items → IsSpecRead bytes spec → DerivationEnds spec reads_second reads_after second n.deriv text text_after faults faults_after e → ComesFor (record { words = []; files = files; reads = reads; reads_after = reads_after; text = text; text_after = text_after; faults = faults; faults_after = faults_after }) n e
+check_comes files first second reads reads_first reads_second reads_after text text_after faults faults_after n bytes items spec e f g le more theory same loaded read ends =
+    let s : Scene = record { words = []; files = files; reads = reads; reads_after = reads_after; text = text; text_after = text_after; faults = faults; faults_after = faults_after } in
+    let l : IsLoaded files n.spec bytes = subst (λ (z : List ℕ). IsLoaded files n.spec z) (sym same) (subst (λ (z : Option (List File)). IsLoaded z n.spec items) f loaded) in
+    derivation_comes s n theory spec (spec_told files n.spec bytes spec l read) reads_second (omega arith) e
+    (subst (λ (z : Option (List File)). DerivationEnds spec reads_second reads_after z n.deriv text text_after faults faults_after e) (g ∙ f) ends)

@@ -17,3 +17,4 @@ pub mod Accepted
 pub mod Tables
 pub mod Staged
 pub mod Ending
+pub mod Exact

@@ -1,10 +1,10 @@
 -- The line of a row has one reading at most, and which line of a derivation is the first bad one.
-use Rattle.std.proofs.Common.{◌≡◌, ◌==◌, Option, None, Some, MatchOption, Bor, ℕ, zero, suc, ◌+◌, ◌-◌, ◌<◌, ◌≤◌, ◌^◌, ◌++◌, max, inl, inr, List, [], ◌∷◌, All, Bool, true, false, length, get_or, take, map, codes, decimal, refl, sym, ◌∙◌, ap, subst, arith, append_assoc}
-use Rattle.std.proofs.lemmas.List.{append_cancel_left, take_more, take-take, get_or-take, get_or-map, take_all, length-take-le, length-map, length_push}
+use Rattle.std.proofs.Common.{◌≡◌, Option, None, Some, MatchOption, Bor, ℕ, zero, suc, ◌+◌, ◌<◌, ◌≤◌, ◌^◌, ◌++◌, inl, List, [], ◌∷◌, length, get_or, take, map, codes, decimal, refl, sym, ◌∙◌, ap, subst, arith}
+use Rattle.std.proofs.lemmas.List.{append_cancel_left, take_more, take-take, get_or-take, take_all, length-take-le, length_push}
 use Rattle.std.proofs.lemmas.List.Elements.{All-cons, All-nil}
 use Rattle.std.proofs.lemmas.Fmt.{decimal_injective}
 use Rattle.syn_term.specs.Names.{IsName}
-use Rattle.syn_term.specs.Terms.{nodes, depth_of}
+use Rattle.syn_term.specs.Terms.{nodes}
 use Rattle.syn_app.specs.declared.lines.FileError.{FileError}
 use Rattle.syn_app.specs.declared.lines.FileError.TheVariants as error
 use Rattle.syn_app.specs.declared.readings.FormReading.{FormReading}
@@ -13,13 +13,14 @@ use Rattle.syn_app.specs.declared.readings.RowReading.{RowReading}
 use Rattle.syn_app.specs.declared.readings.Step.{Step}
 use Rattle.syn_app.specs.declared.readings.Step.TheVariants as step
 use Rattle.syn_app.specs.declared.readings.TermReading.{TermReading}
-use Rattle.syn_app.specs.DerivationText.{AreRows, ExtendsDerivation, WholeDerivation, IsDerivationText, IsForm, IsRow, IsStep, entry_of, first_line, form_tree, row_line, row_lines, row_tree}
-use Rattle.syn_app.specs.Limits.{FitsForm, FitsRow, FitsTerm, form_nodes, form_depth, row_nodes, row_depth}
+use Rattle.syn_app.specs.DerivationText.{AreRows, ExtendsDerivation, WholeDerivation, IsDerivationText, IsForm, IsRow, IsStep, entry_of, first_line, form_tree, row_line, row_lines}
+use Rattle.syn_app.specs.Limits.{FitsForm}
 use Rattle.syn_app.specs.Lines.{ExtendsAt, IsCut, IsFirstBad, Without}
 use Rattle.syn_app.specs.Readers.{HasParts, HasTerms, IsDerivationReading, IsFirstBadLine, IsTerm, Refuses, RefusesLines, row_text, with_form, with_step}
-use Rattle.syn_app.specs.Terms.{term_text, term_tree, term_size}
+use Rattle.syn_app.specs.Terms.{term_text, term_tree}
 use Rattle.syn_app.proofs.Parts.{cut_same, part_once}
-use Rattle.syn_app.proofs.TermTexts.{decimal_without, term_once, term_no_space, term_nodes, term_depth, term_some}
+use Rattle.syn_app.proofs.Closed.{nodes-term_tree}
+use Rattle.syn_app.proofs.TermTexts.{decimal_without, term_once, term_no_space}
 
 -- a term before a space is the whole part before it
 module _ (text others input : List ℕ) (named : IsName input) where
@@ -37,11 +38,6 @@ module _ (text others input : List ℕ) (named : IsName input) where
 
 low_without : (n : ℕ) → n < 10 ^ 7 → Without 32 (decimal n)
 low_without n low = decimal_without n 32 low (inl (omega arith))
-
--- a step is told by its first word
-pub no_step : (text : List ℕ) → ((rest : List ℕ) → text ≡ codes "goal: goal " ++ rest → ⊥) → ((rest : List ℕ) → text ≡ codes "reflex " ++ rest → ⊥) → (s : Step) (rest : List ℕ) → IsStep s → text ≡ with_step s rest → ⊥
-no_step text goal reflex step.Goal rest ok e = goal rest e
-no_step text goal reflex (step.Reflex row) rest ok e = reflex (decimal row ++ 32 ∷ (codes "-: goal " ++ rest)) e
 
 module _ (text after : List ℕ) (goal : (rest : List ℕ) → text ≡ codes "goal: goal " ++ rest → ⊥) (cut : text ≡ codes "reflex " ++ after) where
   pub no_step_word : ((part rest : List ℕ) → Without 32 part → after ≡ part ++ 32 ∷ (codes "-: goal " ++ rest) → ⊥) → (s : Step) (rest : List ℕ) → IsStep s → text ≡ with_step s rest → ⊥
@@ -72,10 +68,6 @@ step_once (step.Reflex m) (step.Reflex n) r q hs ht e =
 
 -- a formula is told by its first word, or by what follows that
 module _ (input : List ℕ) (named : IsName input) (text : List ℕ) (no_true : (rest : List ℕ) → text ≡ codes "true | " ++ rest → ⊥) where
-  pub no_left : ((r : TermReading) (rest : List ℕ) → IsTerm r → text ≡ term_text input r ++ 32 ∷ (codes "= " ++ rest) → ⊥) → (f : FormReading) (rest : List ℕ) → HasTerms f → text ≡ with_form input f rest → ⊥
-  no_left none reading.True rest ok e = no_true rest e
-  no_left none (reading.Equal s t) rest ok e = none s (term_text input t ++ 32 ∷ (codes "| " ++ rest)) ok.0 e
-
   pub no_right : (left : TermReading) (after : List ℕ) → IsTerm left → text ≡ term_text input left ++ 32 ∷ (codes "= " ++ after) → ((r : TermReading) (rest : List ℕ) → IsTerm r → after ≡ term_text input r ++ 32 ∷ (codes "| " ++ rest) → ⊥) → (f : FormReading) (rest : List ℕ) → HasTerms f → text ≡ with_form input f rest → ⊥
   no_right left after hl is none reading.True rest ok e = no_true rest e
   no_right left after hl is none (reading.Equal s t) rest ok e =
@@ -105,9 +97,6 @@ form_once input (reading.Equal s t) (reading.Equal u v) r q named hf hg e =
 
 -- the parts of a row's line, one after another
 module _ (input : List ℕ) (named : IsName input) (text : List ℕ) where
-  pub no_row_step : ((s : Step) (rest : List ℕ) → IsStep s → text ≡ with_step s rest → ⊥) → (r : RowReading) → HasParts r → text ≡ row_text input r → ⊥
-  no_row_step none r ok e = none r.step (with_form input r.form (term_text input r.out)) ok.step e
-
   module _ (s : Step) (after : List ℕ) (hs : IsStep s) (cut : text ≡ with_step s after) where
     after_is : (r : RowReading) → HasParts r → text ≡ row_text input r → (s ≡ r.step) × (after ≡ with_form input r.form (term_text input r.out))
     after_is r ok e = step_once s r.step after (with_form input r.form (term_text input r.out)) hs ok.step (sym cut ∙ e)
@@ -151,11 +140,8 @@ after_number_is line input text n r cut e =
     let t : 32 ∷ text ≡ 32 ∷ row_text input r = append_cancel_left (decimal n) (32 ∷ text) (32 ∷ row_text input r) (sym cut ∙ (e ∙ line_is input n r)) in
     append_cancel_left (32 ∷ []) text (row_text input r) t
 
-pub line_from : (line input text : List ℕ) (n : ℕ) (r : RowReading) → line ≡ decimal n ++ 32 ∷ text → text ≡ row_text input r → line ≡ row_line input n r
-line_from line input text n r cut e = cut ∙ (ap (λ (x : List ℕ). decimal n ++ 32 ∷ x) e ∙ sym (line_is input n r))
-
 term_low : (r : TermReading) → nodes (term_tree r) ≤ 4096 → r.successors ≤ 4096
-term_low r h = let t = term_nodes r in omega arith
+term_low r h = let t = nodes-term_tree r in omega arith
 
 form_terms : (f : FormReading) → IsForm f → FitsForm (form_tree f) → HasTerms f
 form_terms reading.True ok fit = tt
@@ -163,15 +149,8 @@ form_terms (reading.Equal s t) ok fit =
     let n : 1 + (nodes (term_tree s) + nodes (term_tree t)) ≤ 4096 = fit.0 in
     ((ok.0, term_low s (omega arith)), (ok.1, term_low t (omega arith)))
 
-terms_form : (f : FormReading) → HasTerms f → IsForm f
-terms_form reading.True ok = tt
-terms_form (reading.Equal s t) ok = (ok.0.0, ok.1.0)
-
 pub row_parts : (r : RowReading) → IsRow r → HasParts r
 row_parts r h = record { step = h.step; form = form_terms r.form h.form h.fits_form; out = (h.out, term_low r.out h.fits_out.0) }
-
-pub parts_row : (r : RowReading) → HasParts r → FitsForm (form_tree r.form) × FitsTerm (term_tree r.out) × FitsRow (row_tree r) → IsRow r
-parts_row r h fit = record { step = h.step; form = terms_form r.form h.form; out = h.out.0; fits_form = fit.0; fits_out = fit.1; fits = fit.2 }
 
 module _ (line input text : List ℕ) (n : ℕ) (named : IsName input) (cut : line ≡ decimal n ++ 32 ∷ text) where
   pub no_row_parts : ((r : RowReading) → HasParts r → text ≡ row_text input r → ⊥) → (r : RowReading) → IsRow r → line ≡ row_line input n r → ⊥
@@ -190,7 +169,7 @@ pub rows_more : (rows : List RowReading) (r : RowReading) → AreRows rows → I
 rows_more [] r are row = (row, tt)
 rows_more (q ∷ rows) r are row = (are.0, rows_more rows r are.1 row)
 
-length_lines : (input : List ℕ) (n : ℕ) (rows : List RowReading) → length (row_lines input n rows) ≡ length rows
+pub length_lines : (input : List ℕ) (n : ℕ) (rows : List RowReading) → length (row_lines input n rows) ≡ length rows
 length_lines input n [] = refl
 length_lines input n (r ∷ rows) = ap suc (length_lines input (n + 1) rows)
 
@@ -203,7 +182,7 @@ row_at input n (suc k) (r ∷ rows) are lt =
     let e : n + 1 + k ≡ n + suc k = omega arith in
     (p.0, p.1, p.2 ∙ ap (λ (j : ℕ). row_line input j p.0) e)
 
-whole_extends : (input : List ℕ) (rows : List RowReading) → AreRows rows → (i : ℕ) → i < length rows + 1 → ExtendsAt (ExtendsDerivation input) (first_line ∷ row_lines input 1 rows) i
+pub whole_extends : (input : List ℕ) (rows : List RowReading) → AreRows rows → (i : ℕ) → i < length rows + 1 → ExtendsAt (ExtendsDerivation input) (first_line ∷ row_lines input 1 rows) i
 whole_extends input rows are zero lt = refl
 whole_extends input rows are (suc k) lt =
     let p = row_at input 1 k rows are (omega arith) in
@@ -249,24 +228,7 @@ read_more_rows input lines rows more r n are count lt is line row e =
       omega arith,
     )
 
-pub first_read : (lines : List (List ℕ)) → 0 < length lines → get_or lines 0 [] ≡ first_line → take 1 lines ≡ first_line ∷ []
-first_read [] lt is = absurd (omega arith)
-first_read (l ∷ ls) lt is = ap (λ (x : List ℕ). x ∷ []) is
-
 module _ (bytes input rest : List ℕ) where
-  pub derivation_first : (lines : List (List ℕ)) → IsCut bytes lines rest → (get_or lines 0 [] ≡ first_line → ⊥) → IsFirstBad (ExtendsDerivation input) WholeDerivation bytes 1
-  derivation_first lines cut none = record {
-    lines = lines;
-    rest = rest;
-    cut = cut;
-    at = 0;
-    is = omega arith;
-    within = omega arith;
-    before = λ i lt. absurd (omega arith);
-    bad = λ lt e. none e;
-    early = λ e r whole. absurd (omega arith);
-  }
-
   pub derivation_stops : (lines : List (List ℕ)) (n : ℕ) → IsCut bytes lines rest → IsFirstBadLine (ExtendsDerivation input) lines n → IsFirstBad (ExtendsDerivation input) WholeDerivation bytes n
   derivation_stops lines n cut h =
       let lt : h.at < length lines = h.within in
@@ -301,12 +263,6 @@ module _ (bytes input rest : List ℕ) where
         bad = λ lt. absurd (omega arith);
         early = λ e r whole. open_end r;
       }
-
-  pub derivation_whole : (lines : List (List ℕ)) (rows : List RowReading) → IsCut bytes lines rest → lines ≡ first_line ∷ row_lines input 1 rows → AreRows rows → rest ≡ [] → IsDerivationReading input bytes rows
-  derivation_whole lines rows cut is are done = record {
-    cut = subst (λ (r : List ℕ). IsCut bytes (first_line ∷ row_lines input 1 rows) r) done (subst (λ (x : List (List ℕ)). IsCut bytes x rest) is cut);
-    are_rows = are;
-  }
 
 -- what is read is the text of the derivation
 pub derivation_text : (input bytes : List ℕ) (rows : List RowReading) → IsDerivationReading input bytes rows → IsDerivationText input bytes (map entry_of rows)

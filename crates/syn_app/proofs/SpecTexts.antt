@@ -1,5 +1,5 @@
 -- What the lines of a theory and of a specification are made of, and which line of a file is then the first bad one.
-use Rattle.std.proofs.Common.{◌≡◌, ◌≢◌, ◌==◌, Option, None, Some, MatchOption, Bor, ℕ, zero, suc, ◌+◌, ◌-◌, ◌<◌, ◌≤◌, ◌++◌, max, List, [], ◌∷◌, All, Bool, true, false, length, get_or, take, codes, refl, sym, ◌∙◌, ap, subst, arith, append_assoc}
+use Rattle.std.proofs.Common.{◌≡◌, ◌≢◌, ◌==◌, Option, None, Some, MatchOption, Bor, ℕ, zero, suc, ◌+◌, ◌<◌, ◌≤◌, ◌++◌, List, [], ◌∷◌, Bool, false, length, get_or, take, codes, refl, sym, ◌∙◌, ap, subst, arith, append_assoc}
 use Rattle.std.proofs.lemmas.List.{append_cancel_left}
 use Rattle.syn_term.specs.Names.{IsName, is_name_byte}
 use Rattle.syn_term.proofs.NameLaws.{name_without}
@@ -9,10 +9,11 @@ use Rattle.syn_app.specs.Lines.{IsCut, IsFirstBad, Without}
 use Rattle.syn_app.specs.Limits.{FitsForm}
 use Rattle.syn_app.specs.Readers.{IsSpecReading, IsTerm}
 use Rattle.syn_app.specs.SpecText.{ProgramNames, AreProgramNames, IsCondition, IsSpecText, ExtendsSpec, WholeSpec, spec_line, program_line, ensures_line, ensures_of, spec_of, output_variable}
-use Rattle.syn_app.specs.Terms.{IsBase, IsClosed, term_text, term_tree, term_size, base_size}
-use Rattle.syn_app.specs.TheoryText.{ExtendsTheory, WholeTheory, IsTheoryText, theory_line}
+use Rattle.syn_app.specs.Terms.{term_text, term_tree}
+use Rattle.syn_app.specs.TheoryText.{ExtendsTheory, WholeTheory, theory_line}
 use Rattle.syn_app.proofs.Parts.{part_once}
-use Rattle.syn_app.proofs.TermTexts.{term_once, term_nodes, term_depth, term_some, variable_nodes, variable_depth}
+use Rattle.syn_app.proofs.Closed.{nodes-term_tree, depth_of-term_tree}
+use Rattle.syn_app.proofs.TermTexts.{term_once, term_some, variable_nodes, variable_depth}
 use Rattle.std.proofs.lemmas.Bool.Decides.{nat_tests}
 
 module _ (mark : ℕ) (low : mark < 128) (other : is_name_byte mark ≡ false) where
@@ -105,7 +106,7 @@ module _ (size : ℕ) (r : TermReading) (is_nodes : size ≡ nodes (term_tree r)
   fits_condition n d =
       let vn = variable_nodes output_variable in
       let vd = variable_depth output_variable in
-      let t = term_depth r in
+      let t = depth_of-term_tree r in
       let s = term_some r in (omega arith, omega arith)
 
   pub condition_size : FitsForm (ensures_of r) → (size + 2 ≤ 4096) × (size + 1 ≤ 1200)
@@ -123,7 +124,7 @@ condition_rest line out a b (Some x) ea eb h = ea ∙ ap (λ (t : List ℕ). cod
 condition_term : (r : TermReading) → IsCondition r → IsTerm r
 condition_term r h =
     let n = h.fits.0 in
-    let t = term_nodes r in
+    let t = nodes-term_tree r in
     (h.base, omega arith)
 
 module _ (line word : List ℕ) (n : ProgramNames) (named : IsName n.input) (cut : line ≡ codes "ensures " ++ (n.output ++ (codes " = " ++ word))) where
@@ -141,19 +142,6 @@ module _ (line word : List ℕ) (n : ProgramNames) (named : IsName n.input) (cut
       subst IsCondition (sym (term_once n.input t r named ok.0 cond.base (sym is ∙ word_is r e))) cond
 
 module _ (bytes rest : List ℕ) where
-  pub theory_first : (lines : List (List ℕ)) → IsCut bytes lines rest → ((name : List ℕ) → IsName name → get_or lines 0 [] ≡ theory_line name → ⊥) → IsFirstBad ExtendsTheory WholeTheory bytes 1
-  theory_first lines cut none = record {
-    lines = lines;
-    rest = rest;
-    cut = cut;
-    at = 0;
-    is = omega arith;
-    within = omega arith;
-    before = λ i lt. absurd (omega arith);
-    bad = λ lt e. none e.0 e.1 e.2;
-    early = λ e r whole. absurd (omega arith);
-  }
-
   pub theory_second : (lines : List (List ℕ)) (name : List ℕ) → IsCut bytes lines rest → IsName name → get_or lines 0 [] ≡ theory_line name → ((length lines ≡ 1) × (rest ≡ []) → ⊥) → IsFirstBad ExtendsTheory WholeTheory bytes 2
   theory_second [] name cut named is more = absurd (cc)
   theory_second (l ∷ ls) name cut named is more = record {
@@ -166,27 +154,6 @@ module _ (bytes rest : List ℕ) where
     before = λ i lt. elim i as (λ (k : ℕ). k < 1 → ExtendsTheory (take k (l ∷ ls)) (get_or (l ∷ ls) k [])) [ zero ↦ (λ h. (name, named, is)) | suc k ↦ (λ h. absurd (omega arith)) ] lt;
     bad = λ lt e. e;
     early = λ e r whole. more (whole, r);
-  }
-
-  pub theory_whole : (lines : List (List ℕ)) (name : List ℕ) → IsCut bytes lines rest → IsName name → get_or lines 0 [] ≡ theory_line name → (length lines ≡ 1) × (rest ≡ []) → IsTheoryText bytes (record { name = name })
-  theory_whole [] name cut named is all = absurd (cc)
-  theory_whole (l ∷ []) name cut named is all = record {
-    cut = subst (λ (r : List ℕ). IsCut bytes (theory_line name ∷ []) r) all.1 (subst (λ (x : List ℕ). IsCut bytes (x ∷ []) rest) is cut);
-    name = named;
-  }
-  theory_whole (l ∷ m ∷ ls) name cut named is all = let e : suc (suc (length ls)) ≡ 1 = all.0 in absurd (omega arith)
-
-  pub spec_first : (lines : List (List ℕ)) → IsCut bytes lines rest → ((name : List ℕ) → IsName name → get_or lines 0 [] ≡ spec_line name → ⊥) → IsFirstBad ExtendsSpec WholeSpec bytes 1
-  spec_first lines cut none = record {
-    lines = lines;
-    rest = rest;
-    cut = cut;
-    at = 0;
-    is = omega arith;
-    within = omega arith;
-    before = λ i lt. absurd (omega arith);
-    bad = λ lt e. none e.0 e.1 e.2;
-    early = λ e r whole. absurd (omega arith);
   }
 
   module _ (name : List ℕ) (named : IsName name) where
@@ -226,7 +193,7 @@ module _ (bytes rest : List ℕ) where
       }
 
       module _ (t : TermReading) (cond : IsCondition t) where
-        three_lines : (l m k : List ℕ) (ls : List (List ℕ)) → l ≡ spec_line name → m ≡ program_line n → k ≡ ensures_line n t → (i : ℕ) → i < 3 → ExtendsSpec (take i (l ∷ m ∷ k ∷ ls)) (get_or (l ∷ m ∷ k ∷ ls) i [])
+        pub three_lines : (l m k : List ℕ) (ls : List (List ℕ)) → l ≡ spec_line name → m ≡ program_line n → k ≡ ensures_line n t → (i : ℕ) → i < 3 → ExtendsSpec (take i (l ∷ m ∷ k ∷ ls)) (get_or (l ∷ m ∷ k ∷ ls) i [])
         three_lines l m k ls is1 is2 is3 zero lt = (name, named, is1)
         three_lines l m k ls is1 is2 is3 (suc zero) lt = (n, ok, is2)
         three_lines l m k ls is1 is2 is3 (suc (suc zero)) lt = (n, ok, is2, (t, cond, is3))

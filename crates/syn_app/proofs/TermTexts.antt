@@ -1,27 +1,22 @@
--- A word is the text of at most one term, and as many nodes as a term's tree has, so deep it is.
-use Rattle.std.proofs.Common.{◌≡◌, Option, None, Some, MatchOption, Bor, ℕ, zero, suc, ◌+◌, ◌-◌, ◌<◌, ◌≤◌, ◌^◌, ◌⊎◌, ◌++◌, max, inl, inr, List, [], ◌∷◌, All, length, get_or, decimal, codes, map, sum, refl, sym, ◌∙◌, ap, subst, arith, append_assoc, true, false, ⊎_elim}
+-- A word is the text of at most one term, and a term is one word.
+use Rattle.std.proofs.Common.{◌≡◌, Option, None, Some, MatchOption, Bor, ℕ, zero, suc, ◌+◌, ◌-◌, ◌<◌, ◌≤◌, ◌^◌, ◌⊎◌, ◌++◌, inl, inr, List, [], ◌∷◌, length, get_or, decimal, codes, refl, sym, ◌∙◌, ap, subst, arith, ⊎_elim}
 use Rattle.std.specs.Int.{IsInRange}
 use Rattle.std.specs.Str.Parse.{AllDigits}
 use Rattle.std.proofs.lemmas.Fmt.{decimal_is_IsNumeral, decimal_injective}
 use Rattle.std.proofs.lemmas.Str.Parse.{digit_at}
 use Rattle.std.proofs.lemmas.List.{append_cancel_left, append_cancel_right}
-use Rattle.std.proofs.lemmas.List.Elements.{All-from_get_or, All-head, All-tail, All-cons, All-append, All-same}
+use Rattle.std.proofs.lemmas.List.Elements.{All-from_get_or, All-head, All-tail, All-cons, All-append}
 use Rattle.syn_term.specs.Names.{IsName}
 use Rattle.syn_term.proofs.NameLaws.{name_without, name_first_other, name_first_no_digit}
-use Rattle.syn_term.specs.Terms.{TermTree, nodes, nodes_step, depth_of, depth_step, greatest, application, variable_tree, nowhere}
-use Rattle.syn_term.specs.declared.term.Node.{Node, roll-Node, fold-roll-Node}
-use Rattle.syn_term.specs.declared.term.Node.TheOpen.{Node-F}
-use Rattle.syn_term.specs.declared.sorts.SymId.{SymId}
+use Rattle.syn_term.specs.Terms.{nodes, nodes_step, depth_of, depth_step, variable_tree, nowhere}
 use Rattle.syn_term.specs.declared.sorts.Var.{Var}
-use Rattle.syn_term.specs.declared.sorts.Sort.TheVariants as sort
-use denote.Hole.Carrier.{roll}
-use Rattle.syn_term.proofs.Trees.{nodes-App, depth_of-App}
+use Rattle.syn_term.proofs.Trees.{fold-Var}
 use Rattle.syn_app.specs.declared.readings.Base.{Base}
 use Rattle.syn_app.specs.declared.readings.Base.TheVariants as base
 use Rattle.syn_app.specs.declared.readings.TermReading.{TermReading}
 use Rattle.syn_app.specs.Lines.{Without}
 use Rattle.syn_app.specs.Readers.{IsTerm}
-use Rattle.syn_app.specs.Terms.{wrapped, base_text, term_text, term_tree, IsBase, successors_of, base_tree, base_size, term_size, zero_id, succ_id, input_id}
+use Rattle.syn_app.specs.Terms.{wrapped, base_text, term_text, IsBase, base_size, term_size}
 
 -- no bracket can be taken off
 abbrev pub IsBare : List ℕ → Type 0
@@ -169,48 +164,12 @@ base_no_space input (base.RowVariable n) named ok = All-cons (λ c. c ≡ 32 →
 pub term_no_space : (input : List ℕ) (r : TermReading) → IsName input → IsBase r.base → Without 32 (term_text input r)
 term_no_space input r named ok = wrapped_without r.successors 32 (base_text input r.base) (λ e. absurd (omega arith)) (λ e. absurd (omega arith)) (λ e. absurd (omega arith)) (base_no_space input r.base named ok)
 
-successors_nodes : (n : ℕ) (t : TermTree) → nodes (successors_of n t) ≡ n + nodes t
-successors_nodes zero t = omega arith
-successors_nodes (suc n) t =
-    let e : nodes (successors_of (suc n) t) ≡ 1 + (0 + nodes (successors_of n t)) = nodes-App nowhere succ_id (successors_of n t ∷ []) in
-    let h = successors_nodes n t in omega arith
-
-successors_depth : (n : ℕ) (t : TermTree) → depth_of (successors_of n t) ≡ n + depth_of t
-successors_depth zero t = omega arith
-successors_depth (suc n) t =
-    let e : depth_of (successors_of (suc n) t) ≡ 1 + max (depth_of (successors_of n t)) 0 = depth_of-App nowhere succ_id (successors_of n t ∷ []) in
-    let h = successors_depth n t in omega arith
-
-leaf_nodes : (f : SymId) → nodes (application f []) ≡ 1
-leaf_nodes f = nodes-App nowhere f []
-
-leaf_depth : (f : SymId) → depth_of (application f []) ≡ 1
-leaf_depth f = depth_of-App nowhere f []
-
+-- the output's variable, as any leaf, has one node
 pub variable_nodes : (v : Var) → nodes (variable_tree v) ≡ 1
-unfolding roll-Node roll
-variable_nodes v = fold-roll-Node ℕ nodes_step (Node-F.Var nowhere v)
+variable_nodes v = fold-Var nodes_step nowhere v
 
 pub variable_depth : (v : Var) → depth_of (variable_tree v) ≡ 1
-unfolding roll-Node roll
-variable_depth v = fold-roll-Node ℕ depth_step (Node-F.Var nowhere v)
-
-base_nodes : (b : Base) → nodes (base_tree b) ≡ base_size b
-base_nodes base.Input = leaf_nodes input_id
-base_nodes (base.Number n) = let e = successors_nodes n (application zero_id []) in let h = leaf_nodes zero_id in omega arith
-base_nodes (base.RowVariable n) = variable_nodes (record { number = n; sort = sort.Nat })
-
-base_depth : (b : Base) → depth_of (base_tree b) ≡ base_size b
-base_depth base.Input = leaf_depth input_id
-base_depth (base.Number n) = let e = successors_depth n (application zero_id []) in let h = leaf_depth zero_id in omega arith
-base_depth (base.RowVariable n) = variable_depth (record { number = n; sort = sort.Nat })
-
--- the nodes of a term's tree, and how deep it is
-pub term_nodes : (r : TermReading) → nodes (term_tree r) ≡ term_size r
-term_nodes r = let e = successors_nodes r.successors (base_tree r.base) in let h = base_nodes r.base in omega arith
-
-pub term_depth : (r : TermReading) → depth_of (term_tree r) ≡ term_size r
-term_depth r = let e = successors_depth r.successors (base_tree r.base) in let h = base_depth r.base in omega arith
+variable_depth v = fold-Var depth_step nowhere v
 
 base_some : (b : Base) → 0 < base_size b
 base_some base.Input = omega arith

@@ -125,3 +125,15 @@ IsRefusal status.Done = ⊥
 IsRefusal status.WriteFault = ⊥
 IsRefusal status.NoMemory = ⊥
 IsRefusal _ = Unit {0}
+
+-- the words fit, and P holds of the bytes of the three files, where files are told
+abbrev pub OfFiles : Scene → (List ℕ → List ℕ → List ℕ → Type 0) → Type 0
+OfFiles s P = (n : FileNames) × (AreWords s n × OfDerivation s n P)
+
+-- the words fit, and there is a cause for a fault of reading this file
+abbrev pub FaultOf : Scene → Which → Type 0
+FaultOf s w = (n : FileNames) × (AreWords s n × HasCause s.reads s.reads_after s.files (file_name n w))
+
+-- the words fit, and this file is too long, where files are told
+abbrev pub LengthOf : Scene → Which → Type 0
+LengthOf s w = (n : FileNames) × (AreWords s n × Told IsLong s.files (file_name n w))

@@ -8,7 +8,7 @@ use std::alloc::Global;
 use syn_term::NoMemory;
 
 /// Why a file is refused.
-#[derive(Clone, Copy, Debug, Drop)]
+#[derive(Clone, Copy, Debug)]
 pub(crate) enum FileError {
     /// The first line, counted from 1, that doesn't go on from those before it.
     Bad(u64),

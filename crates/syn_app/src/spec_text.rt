@@ -25,6 +25,7 @@ pub(crate) struct SpecReading<'a> {
     pub(crate) term: TermReading,
 }
 
+// The names of a program line.
 #[derive(Clone, Copy, Debug)]
 struct Header<'a> {
     program: &'a str,

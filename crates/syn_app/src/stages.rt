@@ -28,7 +28,12 @@ use syn_term::NoMemory;
 const MOST_BYTES: u64 = 4_194_304;
 
 /// The bytes of a file.
-pub(crate) fn load<C: Cabinet>(alloc: Global, cab: &mut C, name: &str, which: Which) -> Result<Vec<u8>, Status>
+pub(crate) fn load<C: Cabinet>(
+    alloc: Global,
+    cab: &mut C,
+    name: &str,
+    which: Which,
+) -> Result<Vec<u8>, Status>
     ensures bytes { IfOk result (λ v. IsLoaded (C.files cab.old) name.now v.items) }
     ensures status { IfErr result (LoadFails which (C.read_faults cab.old) (C.read_faults cab.new) (C.files cab.old) name.now) }
     ensures files { C.files cab.new ≡ C.files cab.old }
@@ -69,7 +74,13 @@ fn print(alloc: Global, spec: &SpecReading<'_>, checked: &Checked) -> Result<Str
     requires { checked.now.syms ≡ nat_program_symbols spec.now.program.now spec.now.input.now }
     ensures { IfOk result (λ text. (theory : TheoryTree) → string_bytes text ≡ printed_program theory (nat_program spec.now.program.now spec.now.input.now checked.now.body)) }
 {
-    print_program(alloc, &checked.syms, spec.program, spec.input, &checked.body)
+    print_program(
+        alloc,
+        &checked.syms,
+        spec.program,
+        spec.input,
+        &checked.body,
+    )
 }
 
 /// The text of the program of the derivation that the rows are.
@@ -90,7 +101,11 @@ fn judge_rows(alloc: Global, spec: &SpecReading<'_>, rows: &[RowReading]) -> Res
 }
 
 /// The text of the program of the derivation that the bytes are the text of.
-pub(crate) fn judge_derivation(alloc: Global, spec: &SpecReading<'_>, bytes: &[u8]) -> Result<String, Status>
+pub(crate) fn judge_derivation(
+    alloc: Global,
+    spec: &SpecReading<'_>,
+    bytes: &[u8],
+) -> Result<String, Status>
     requires names { AreProgramNames (reading_names spec.now) }
     requires condition { IsCondition spec.now.term }
     ensures { MatchResult result (λ text. Prints spec.now bytes.now (string_bytes text)) (DerivationFails spec.now bytes.now) }
@@ -126,7 +141,13 @@ pub(crate) fn theory_stage<C: Cabinet>(alloc: Global, cab: &mut C, name: &str) -
 }
 
 /// Reads the derivation, judges its text and its rows, and writes the program.
-pub(crate) fn derivation_stage<C: Cabinet, S: Sink>(alloc: Global, name: &str, spec: &SpecReading<'_>, cab: &mut C, out: &mut S) -> Status
+pub(crate) fn derivation_stage<C: Cabinet, S: Sink>(
+    alloc: Global,
+    name: &str,
+    spec: &SpecReading<'_>,
+    cab: &mut C,
+    out: &mut S,
+) -> Status
     requires names { AreProgramNames (reading_names spec.now) }
     requires condition { IsCondition spec.now.term }
     ensures status { DerivationEnds spec.now (C.read_faults cab.old) (C.read_faults cab.new) (C.files cab.old) name.now (S.text out.old) (S.text out.new) (S.faults out.old) (S.faults out.new) result }

@@ -1,18 +1,83 @@
-// The top call.
-use crate::status::Status;
+// The top call: the words first, then the three files in their order, each read and then judged,
+// then the replay of the derivation and the write of its program.
+ghost use Rattle.std.specs.Prelude.{◌≡◌, ◌↔◌, ◌⊎◌, ℕ, [], map, string_bytes};
+ghost use Rattle.syn_outside.specs.Faults.{Rose};
+ghost use Rattle.syn_outside.specs.Texts.{Adds, AddsPrefix};
+ghost use Rattle.syn_app.specs.Comes.{Comes, ComesFor, FaultOf, IsRefusal, LengthOf, OfFiles, OfTexts, Writing};
+ghost use Rattle.syn_app.specs.Replay.{IsFirstToFail, IsUnfinished};
+ghost use Rattle.syn_app.specs.Words.{IsNoCheck};
+
+use crate::command::{Names, check_names};
+use crate::stages::{derivation_stage, judge_spec, load, theory_stage};
+use crate::status::{Status, Which};
 use std::alloc::Global;
 use syn_outside::{Cabinet, Sink};
 
-/// Does what the words ask.
-pub fn synth<C: Cabinet, S: Sink>(
+/// Checks the derivation that the files hold, and writes its program.
+fn check_files<C: Cabinet, S: Sink>(
     alloc: Global,
-    words: &[String],
+    names: Names<'_>,
     cab: &mut C,
     out: &mut S,
-) -> Status {
-    let _ = alloc;
-    let _ = words;
-    let _ = cab;
-    let _ = out;
-    Status::NoMemory
+) -> Status
+    ensures comes { ComesFor (record { words = []; files = C.files cab.old; reads = C.read_faults cab.old; reads_after = C.read_faults cab.new; text = S.text out.old; text_after = S.text out.new; faults = S.faults out.old; faults_after = S.faults out.new }) (record { theory = names.entry.theory.now; spec = names.entry.spec.now; deriv = names.entry.deriv.now }) result }
+    ensures before { IsRefusal result → S.text out.new ≡ S.text out.old }
+    ensures files { C.files cab.new ≡ C.files cab.old }
+{
+    if let Err(status) = theory_stage(alloc, cab, names.theory) {
+        return status;
+    }
+    match load(alloc, cab, names.spec, Which::Spec) {
+        Err(status) => status,
+        Ok(bytes) => match judge_spec(alloc, bytes.as_slice()) {
+            Err(status) => status,
+            Ok(spec) => derivation_stage(alloc, names.deriv, &spec, cab, out),
+        },
+    }
+}
+
+/// Does what the words ask, with every clause that the top call has in one relation.
+fn run<C: Cabinet, S: Sink>(alloc: Global, words: &[String], cab: &mut C, out: &mut S) -> Status
+    ensures comes { Comes (record { words = map string_bytes words.now; files = C.files cab.old; reads = C.read_faults cab.old; reads_after = C.read_faults cab.new; text = S.text out.old; text_after = S.text out.new; faults = S.faults out.old; faults_after = S.faults out.new }) result }
+    ensures before { IsRefusal result → S.text out.new ≡ S.text out.old }
+    ensures files { C.files cab.new ≡ C.files cab.old }
+{
+    match check_names(words) {
+        None => Status::Words,
+        Some(names) => check_files(alloc, names, cab, out),
+    }
+}
+
+/// Does all that the program does: `words` are the words after the program's name, `cab` holds the
+/// files that they name, and `out` takes what is printed. The one form of words so far is
+/// `check THEORY SPEC DERIV`: the derivation of the third file is checked for the specification of
+/// the second over the theory of the first, and the text of its program is put into `out`.
+///
+/// The answer is Done, or the first refusal in this order: the words; the theory read, then its
+/// text; the specification read, then its text; the derivation read, then its text; the rows of the
+/// derivation; the write. NoMemory may come at any place.
+pub fn synth<C: Cabinet, S: Sink>(alloc: Global, words: &[String], cab: &mut C, out: &mut S) -> Status
+    // When each status comes, as one relation: the clauses below follow from it.
+    ensures comes { Comes (record { words = map string_bytes words.now; files = C.files cab.old; reads = C.read_faults cab.old; reads_after = C.read_faults cab.new; text = S.text out.old; text_after = S.text out.new; faults = S.faults out.old; faults_after = S.faults out.new }) result }
+
+    // Done: the derivation is accepted, its program is correct where the axioms hold, and the sink
+    // has gained exactly the printed program.
+    ensures done { result ≡ Status.Done → OfFiles (record { words = map string_bytes words.now; files = C.files cab.old; reads = C.read_faults cab.old; reads_after = C.read_faults cab.new; text = S.text out.old; text_after = S.text out.new; faults = S.faults out.old; faults_after = S.faults out.new }) (OfTexts (Writing (Adds (S.text out.old) (S.text out.new)))) }
+
+    // The refusals that are exact, and those that come only for a cause.
+    ensures words { (result ≡ Status.Words) ↔ IsNoCheck (map string_bytes words.now) }
+    ensures read_fault { (w : Which) → result ≡ Status.ReadFault w → FaultOf (record { words = map string_bytes words.now; files = C.files cab.old; reads = C.read_faults cab.old; reads_after = C.read_faults cab.new; text = S.text out.old; text_after = S.text out.new; faults = S.faults out.old; faults_after = S.faults out.new }) w }
+    ensures too_long { (w : Which) → result ≡ Status.TooLong w → LengthOf (record { words = map string_bytes words.now; files = C.files cab.old; reads = C.read_faults cab.old; reads_after = C.read_faults cab.new; text = S.text out.old; text_after = S.text out.new; faults = S.faults out.old; faults_after = S.faults out.new }) w }
+    ensures not_follows { (k : ℕ) → result ≡ Status.NotFollows k → OfFiles (record { words = map string_bytes words.now; files = C.files cab.old; reads = C.read_faults cab.old; reads_after = C.read_faults cab.new; text = S.text out.old; text_after = S.text out.new; faults = S.faults out.old; faults_after = S.faults out.new }) (OfTexts (λ theory spec entries. IsFirstToFail spec entries k)) }
+    ensures not_final { result ≡ Status.NotFinal → OfFiles (record { words = map string_bytes words.now; files = C.files cab.old; reads = C.read_faults cab.old; reads_after = C.read_faults cab.new; text = S.text out.old; text_after = S.text out.new; faults = S.faults out.old; faults_after = S.faults out.new }) (OfTexts IsUnfinished) }
+    ensures write_fault { result ≡ Status.WriteFault → Rose (S.faults out.old) (S.faults out.new) }
+
+    // What stays: the files always; the sink's text after a refusal before the write. After a fault
+    // or want of memory in the write some first bytes of the program's text were put.
+    ensures files { C.files cab.new ≡ C.files cab.old }
+    ensures before { IsRefusal result → S.text out.new ≡ S.text out.old }
+    ensures part { result ≡ Status.WriteFault → OfFiles (record { words = map string_bytes words.now; files = C.files cab.old; reads = C.read_faults cab.old; reads_after = C.read_faults cab.new; text = S.text out.old; text_after = S.text out.new; faults = S.faults out.old; faults_after = S.faults out.new }) (OfTexts (Writing (AddsPrefix (S.text out.old) (S.text out.new)))) }
+    ensures memory { result ≡ Status.NoMemory → (S.text out.new ≡ S.text out.old) ⊎ OfFiles (record { words = map string_bytes words.now; files = C.files cab.old; reads = C.read_faults cab.old; reads_after = C.read_faults cab.new; text = S.text out.old; text_after = S.text out.new; faults = S.faults out.old; faults_after = S.faults out.new }) (OfTexts (Writing (AddsPrefix (S.text out.old) (S.text out.new)))) }
+{
+    run(alloc, words, cab, out)
 }

@@ -1,5 +1,5 @@
 -- What it is for a program to be correct for a specification.
-use Rattle.std.specs.Prelude.{◌≡◌, ℕ, List, Option, None, Some, map, if◌then◌else◌, nat_eq}
+use Rattle.std.specs.Prelude.{◌≡◌, ℕ, List, None, Some, map, if◌then◌else◌, nat_eq}
 use Rattle.syn_model.specs.declared.trees.Value.{Value}
 use Rattle.syn_model.specs.Trees.{TheoryTree, SpecTree, ProgramTree, spec_symbols, first_input, sort_declared}
 use Rattle.syn_model.specs.Values.{OfSort, OfSorts}

@@ -1,9 +1,8 @@
 -- Evaluation with its turns. It is strict, from left to right. The number n bounds how deep calls nest, and nothing is
 -- given where they nest deeper; turns are only counted. A turn is taken by each call of the program and by each
 -- constructor with arguments, once the arguments have their values.
-use Rattle.std.specs.Prelude.{◌≡◌, ℕ, zero, suc, ◌+◌, ◌-◌, Bool, true, List, [], ◌∷◌, Option, None, Some, slice_get, if◌then◌else◌, nat_lt}
+use Rattle.std.specs.Prelude.{ℕ, zero, suc, ◌+◌, ◌-◌, Bool, true, List, [], ◌∷◌, Option, None, Some, slice_get, if◌then◌else◌, nat_lt}
 use Rattle.std.specs.Option.{option_map, option_and_then}
-use Rattle.syn_term.specs.declared.sorts.Sym.{Sym}
 use Rattle.syn_term.specs.declared.sorts.Kind.{Kind}
 use Rattle.syn_term.specs.declared.sorts.Kind.TheVariants as kind
 use Rattle.syn_term.specs.declared.term.Node.{fold-Node}
@@ -12,9 +11,7 @@ use Rattle.syn_term.specs.Symbols.{SymbolTable, symbol_at}
 use Rattle.syn_term.specs.Terms.{TermTree}
 use Rattle.syn_model.specs.declared.trees.Value.{Value}
 use Rattle.syn_model.specs.declared.trees.Value.TheVariants.{Num}
-use Rattle.syn_model.specs.declared.trees.Form.{Form}
 use Rattle.syn_model.specs.declared.trees.Form.TheVariants as form
-use Rattle.syn_model.specs.declared.trees.Out.{Out}
 use Rattle.syn_model.specs.declared.trees.Out.TheVariants as out
 use Rattle.syn_model.specs.Trees.{OutTree, FormTree, TheoryTree, ProgramTree, program_symbols, first_input}
 use Rattle.syn_model.specs.Values.{same_value}

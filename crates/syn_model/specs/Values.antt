@@ -1,5 +1,5 @@
 -- Values, and the sorts that they are of.
-use Rattle.std.specs.Prelude.{ℕ, Bool, List, [], ◌∷◌, nat_eq}
+use Rattle.std.specs.Prelude.{Bool, List, [], ◌∷◌, nat_eq}
 use Rattle.syn_term.specs.declared.sorts.Sort.{Sort}
 use Rattle.syn_term.specs.declared.sorts.Sort.TheVariants as sort
 use Rattle.syn_term.specs.Symbols.{SymbolTable}

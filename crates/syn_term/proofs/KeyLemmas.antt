@@ -135,3 +135,7 @@ pub symbol_last : (t : SymbolTable) (k : String Global) (s : Sym) (es new : List
 symbol_last t k s es new sorts view is =
     ap (λ (xs : List Entry). table (values_of xs) sorts) is
     ∙ (ap (λ (xs : List Sym). table xs sorts) (map-append (λ (e : Entry). e.1) es ((k, s) ∷ [])) ∙ ap (λ (u : SymbolTable). with_symbol u s) view)
+
+-- and no two symbols have one name
+pub distinct_table : (es : List Entry) (sorts : List NamedSort) → IsKeyed es → IsDistinct string_eq (keys_of es) → HasDistinctNames (table (values_of es) sorts)
+distinct_table es sorts keyed distinct = distinct_names (table (values_of es) sorts) es keyed refl distinct

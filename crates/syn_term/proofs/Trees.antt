@@ -1,7 +1,6 @@
 -- The equations of the functions of trees at a variable and at a symbol with arguments.
-use Rattle.std.proofs.Common.{◌≡◌, ℕ, suc, ◌+◌, ◌-◌, ◌≤◌, ◌<◌, min, max, sum, List, [], ◌∷◌, map, length, ◌++◌, take, get_or, refl, sym, ◌∙◌, ap, subst, arith, rules, IsTrue, Bool, true, false, not, nat_eq}
+use Rattle.std.proofs.Common.{◌≡◌, ℕ, ◌+◌, ◌-◌, ◌≤◌, ◌<◌, min, max, sum, List, [], ◌∷◌, map, length, ◌++◌, take, get_or, refl, sym, ◌∙◌, ap, subst, arith, rules, IsTrue, Bool, true, false, not, nat_eq}
 use Rattle.std.proofs.lemmas.Bool.Decides.{nat_tests}
-use Rattle.std.specs.List.{sum_by}
 use Rattle.syn_term.specs.declared.sorts.SymId.{SymId}
 use Rattle.syn_term.specs.declared.sorts.Var.{Var}
 use Rattle.syn_term.specs.declared.term.Place.{Place}
@@ -10,7 +9,7 @@ use Rattle.syn_term.specs.declared.term.Node.TheOpen.{Node-F}
 use Rattle.syn_term.specs.declared.term.Node.TheVariants as node
 use Rattle.syn_term.specs.declared.term.Node.TheViews as view
 use Rattle.syn_term.specs.declared.term.Node.TheViews.{the_lemmas}
-use Rattle.std.proofs.lemmas.List.{take_more, take_all, map-append, get_or-map}
+use Rattle.std.proofs.lemmas.List.{take_more, take_all, map-append}
 use denote.Hole.Carrier.{roll}
 use Rattle.syn_term.specs.Terms.{nodes, nodes_step, depth_of, depth_step, greatest, bare, bare_step, application, nowhere}
 

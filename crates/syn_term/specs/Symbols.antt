@@ -1,6 +1,6 @@
 use Rattle.std.specs.Prelude.{◌≡◌, ◌⊎◌, ℕ, ◌<◌, List, [], ◌∷◌, ◌++◌, Option, Some, IsNone, IsSome, IfSome, All, Any, Contains, codes, length, map, slice_get}
 use Rattle.syn_term.specs.declared.sorts.Kind.{Kind}
-use Rattle.syn_term.specs.declared.sorts.Kind.TheVariants.{Zero, Succ, Nil, Cons, Tuple, Fun, Rel, Order, Input, Program, Skolem}
+use Rattle.syn_term.specs.declared.sorts.Kind.TheVariants.{Zero, Succ, Nil, Cons, Tuple, Rel, Order, Input, Skolem}
 use Rattle.syn_term.specs.declared.sorts.Sort.{Sort}
 use Rattle.syn_term.specs.declared.sorts.Sort.TheVariants.{Nat, Named}
 use Rattle.syn_term.specs.declared.sorts.Sym.{Sym}
@@ -13,10 +13,11 @@ pub record SymbolTable : Type 0 where
   pub syms : List Sym
   pub sorts : List NamedSort
 
--- The zero of the natural numbers, written `0`, and their successor, written `s`.
+-- The zero of the natural numbers, written `0`.
 abbrev pub zero_symbol : Sym
 zero_symbol = record { name = codes "0"; kind = Zero; args = []; result = Some Nat }
 
+-- The successor of a natural number, written `s`, as in `s(0)`.
 abbrev pub succ_symbol : Sym
 succ_symbol = record { name = codes "s"; kind = Succ; args = Nat ∷ []; result = Some Nat }
 
@@ -48,16 +49,7 @@ IsSort table = IsSortBelow (length table.sorts)
 -- A Skolem symbol has a name of their form, `!gap.1`, and every other symbol that is added has a name.
 abbrev pub FitsName : Kind → List ℕ → Type 0
 FitsName Skolem name = IsSkolemName name
-FitsName Zero name = IsName name
-FitsName Succ name = IsName name
-FitsName Nil name = IsName name
-FitsName Cons name = IsName name
-FitsName Tuple name = IsName name
-FitsName Fun name = IsName name
-FitsName Rel name = IsName name
-FitsName Order name = IsName name
-FitsName Input name = IsName name
-FitsName Program name = IsName name
+FitsName _ name = IsName name
 
 -- Zero and successor are there from the start, and the makers of lists and tuples come with their sorts alone.
 abbrev pub IsAddable : Kind → Type 0
@@ -66,26 +58,13 @@ IsAddable Succ = ⊥
 IsAddable Nil = ⊥
 IsAddable Cons = ⊥
 IsAddable Tuple = ⊥
-IsAddable Fun = Unit {0}
-IsAddable Rel = Unit {0}
-IsAddable Order = Unit {0}
-IsAddable Input = Unit {0}
-IsAddable Program = Unit {0}
-IsAddable Skolem = Unit {0}
+IsAddable _ = Unit {0}
 
 -- A relation and an order have no result, and every other symbol has one.
 abbrev pub FitsResult : Kind → Option Sort → Type 0
 FitsResult Rel result = IsNone result
 FitsResult Order result = IsNone result
-FitsResult Zero result = IsSome result
-FitsResult Succ result = IsSome result
-FitsResult Nil result = IsSome result
-FitsResult Cons result = IsSome result
-FitsResult Tuple result = IsSome result
-FitsResult Fun result = IsSome result
-FitsResult Input result = IsSome result
-FitsResult Program result = IsSome result
-FitsResult Skolem result = IsSome result
+FitsResult _ result = IsSome result
 
 -- A symbol is as its kind asks where the kind is one that is added, the name has the kind's form, an input takes no
 -- arguments, and a result is there exactly where the kind has one.

@@ -1,10 +1,9 @@
 -- Terms as trees: their parts, their numbers, and when two of them are one tree.
-use Rattle.std.specs.Prelude.{◌≡◌, ℕ, zero, suc, ◌+◌, ◌≢◌, max, sum, fold, List, [], ◌∷◌, Option, None, Some, map, slice_get}
+use Rattle.std.specs.Prelude.{◌≡◌, ℕ, zero, suc, ◌+◌, ◌≢◌, max, sum, List, [], ◌∷◌, Option, None, Some, map, slice_get}
 use Rattle.std.specs.Option.{option_and_then}
 use Rattle.syn_term.specs.declared.sorts.Sort.{Sort}
 use Rattle.syn_term.specs.declared.sorts.Sym.{Sym}
 use Rattle.syn_term.specs.declared.sorts.SymId.{SymId}
-use Rattle.syn_term.specs.declared.sorts.Kind.{Kind}
 use Rattle.syn_term.specs.declared.sorts.Kind.TheVariants as kind
 use Rattle.syn_term.specs.declared.sorts.Head.{Head}
 use Rattle.syn_term.specs.declared.sorts.Head.TheVariants as head

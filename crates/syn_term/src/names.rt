@@ -114,15 +114,18 @@ mod tests {
     fn tells_names(rt: HostRuntime) {
         let longest = "a23456789_123456789_123456789_123456789_123456789_123456789_1234";
         let too_long = "a23456789_123456789_123456789_123456789_123456789_123456789_12345";
-        assert_eq!(rt; longest.len(), 64);
         for name in ["λόγος", "間隙", "a_1", longest, "nats"] {
-            assert!(rt; is_name(name), "{name}");
+            assert!(rt; is_name(name));
         }
         for text in ["", "_a", "\u{301}a", "1a", "a.b", "nat", "induct", too_long] {
-            assert!(rt; !is_name(text), "{text}");
+            assert!(rt; !is_name(text));
         }
+    }
+
+    #[test]
+    fn tells_skolem_names(rt: HostRuntime) {
         for name in ["!gap.1", "!induct.2", "!goal.9999999", "!λ.10"] {
-            assert!(rt; is_skolem_name(name), "{name}");
+            assert!(rt; is_skolem_name(name));
         }
         for text in [
             "!gap.0",
@@ -133,7 +136,7 @@ mod tests {
             "!nat.1",
             "!gap.+1",
         ] {
-            assert!(rt; !is_skolem_name(text), "{text}");
+            assert!(rt; !is_skolem_name(text));
         }
     }
 }

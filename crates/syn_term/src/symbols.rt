@@ -1,7 +1,7 @@
 // The table of symbols. A symbol is found by its name in a hash table and by its number in order;
 // a symbol is added only where every test passes, so names in a table are distinct, and what a
 // table says of a symbol never changes.
-ghost use Rattle.std.specs.Prelude.{◌≡◌, ◌↔◌, ◌<◌, ℕ, IsTrue, Some, IfSome, IfNone, IfOk, OnErr, MatchOption, Contains, All, Any, [], slice_get, length, position};
+ghost use Rattle.std.specs.Prelude.{◌≡◌, ◌↔◌, ◌<◌, ℕ, IsTrue, Some, IfSome, IfNone, IfOk, OnOk, OnErr, MatchOption, Contains, All, Any, [], slice_get, length, position};
 ghost use Rattle.std.specs.Option.{option_copied, option_map};
 ghost use Rattle.std.specs.Str.{bytes_eq};
 ghost use Rattle.syn_term.specs.declared.sorts.Kind.TheVariants.{Input};
@@ -61,7 +61,7 @@ fn fits_kind(sym: &Sym) -> bool
         && fits_input(sym.kind, sym.args.as_slice())
 }
 
-// How a sort is told from the count of the declared ones.
+// A sort is a number below the count of the declared ones, so the count alone decides.
 fn is_sort(count: usize, sort: Sort) -> bool
     ensures { IsTrue result ↔ IsSortBelow count sort }
 {
@@ -137,7 +137,8 @@ impl Model for Symbols {
 impl Symbols {
     /// The table of zero, which is written `0`, and the successor, which is written `s`.
     pub fn new(alloc: Global) -> Result<Symbols, NoMemory>
-        ensures { IfOk result (λ table. table ≡ first_symbols) }
+        ensures first { IfOk result (λ table. table ≡ first_symbols) }
+        ensures distinct { IfOk result HasDistinctNames }
     {
         let mut table = Symbols {
             by_name: IndexMap::new(alloc),
@@ -153,6 +154,7 @@ impl Symbols {
         requires { ¬ (Contains (names_of self.old) sym.name) }
         ensures ok { IfOk result (λ id. (id.0 ≡ length self.old.syms) × (self.new ≡ with_symbol self.old sym)) }
         ensures err { OnErr result (self.new ≡ self.old) }
+        ensures distinct { OnOk result (HasDistinctNames self.new) }
     {
         let Ok(number) = u32::try_from(self.by_name.len()) else {
             return Err(NoMemory);
@@ -165,13 +167,15 @@ impl Symbols {
     }
 
     fn is_taken(&self, name: &str) -> bool
-        ensures { IsTrue result ↔ IsTaken self.now name.now }
+        ensures taken { IsTrue result ↔ IsTaken self.now name.now }
+        ensures distinct { HasDistinctNames self.now }
     {
         self.find(name).is_some() || names_a_sort(self.sorts.as_slice(), name)
     }
 
     fn may_add(&self, sym: &Sym) -> bool
-        ensures { IsTrue result ↔ MayAdd self.now sym.now }
+        ensures allowed { IsTrue result ↔ MayAdd self.now sym.now }
+        ensures distinct { HasDistinctNames self.now }
     {
         let count = self.sorts.len();
         !self.is_taken(sym.name.as_str())
@@ -191,6 +195,7 @@ impl Symbols {
         ensures kept { IfOk result (λ o. IfNone o (self.new ≡ self.old)) }
         ensures err { OnErr result (self.new ≡ self.old) }
         ensures extends { IsPrefix self.old self.new }
+        ensures distinct { HasDistinctNames self.new }
     {
         if !self.may_add(&sym) {
             return Ok(None);
@@ -242,43 +247,53 @@ mod tests {
         })
     }
 
-    #[test]
-    fn adds_and_finds(rt: HostRuntime) -> Result<(), Fail> {
-        let nat = Some(Sort::Nat);
-        let alloc = rt.alloc();
+    // What a new table answers to the symbol, or NoMemory.
+    fn answer(
+        alloc: Global,
+        name: &str,
+        kind: Kind,
+        args: &[Sort],
+        value: Option<Sort>,
+    ) -> Result<Option<SymId>, NoMemory> {
         let mut table = Symbols::new(alloc)?;
-        assert_eq!(rt; table.find("0"), Some(SymId(0)));
-        assert_eq!(rt; table.find("s"), Some(SymId(1)));
+        table.add(symbol(alloc, name, kind, args, value)?)
+    }
+
+    // What a table answers to an input, to the same input again, and when asked for it.
+    fn answers(alloc: Global) -> Result<[Option<SymId>; 3], NoMemory> {
+        let mut table = Symbols::new(alloc)?;
+        let first = table.add(symbol(alloc, "x", Kind::Input, &[], Some(Sort::Nat))?)?;
+        let second = table.add(symbol(alloc, "x", Kind::Input, &[], Some(Sort::Nat))?)?;
+        Ok([first, second, table.find("x")])
+    }
+
+    #[test]
+    fn adds_what_may_be_added(rt: HostRuntime) -> Result<(), Fail> {
+        let alloc = rt.alloc();
+        let nat = Some(Sort::Nat);
         assert_eq!(rt;
-            table.add(symbol(alloc, "x", Kind::Input, &[], nat)?)?,
+            answer(alloc, "!gap.1", Kind::Skolem, &[], nat)?,
             Some(SymId(2))
         );
-        assert_eq!(rt; table.find("x"), Some(SymId(2)));
+        assert_eq!(rt; answer(alloc, "!gap.0", Kind::Skolem, &[], nat)?, None);
+        assert_eq!(rt; answer(alloc, "y", Kind::Succ, &[Sort::Nat], nat)?, None);
+        assert_eq!(rt; answer(alloc, "le", Kind::Rel, &[Sort::Nat], nat)?, None);
         assert_eq!(rt;
-            table.add(symbol(alloc, "x", Kind::Input, &[], nat)?)?,
+            answer(alloc, "f", Kind::Fun, &[Sort::Named(0)], nat)?,
             None
         );
+        Ok(())
+    }
+
+    #[test]
+    fn finds_what_was_added(rt: HostRuntime) -> Result<(), Fail> {
         assert_eq!(rt;
-            table.add(symbol(alloc, "y", Kind::Succ, &[Sort::Nat], nat)?)?,
-            None
+            answers(rt.alloc())?,
+            [Some(SymId(2)), None, Some(SymId(2))]
         );
-        assert_eq!(rt;
-            table.add(symbol(alloc, "le", Kind::Rel, &[Sort::Nat], nat)?)?,
-            None
-        );
-        assert_eq!(rt;
-            table.add(symbol(alloc, "f", Kind::Fun, &[Sort::Named(0)], nat)?)?,
-            None
-        );
-        assert_eq!(rt;
-            table.add(symbol(alloc, "!gap.1", Kind::Skolem, &[], nat)?)?,
-            Some(SymId(3))
-        );
-        assert_eq!(rt;
-            table.add(symbol(alloc, "!gap.0", Kind::Skolem, &[], nat)?)?,
-            None
-        );
-        assert!(rt; table.get(SymId(4)).is_none());
+        let table = Symbols::new(rt.alloc())?;
+        assert_eq!(rt; table.find("s"), Some(SymId(1)));
+        assert!(rt; table.get(SymId(2)).is_none());
         Ok(())
     }
 }

@@ -1,6 +1,5 @@
-use Rattle.std.proofs.Common.{◌≡◌, ◌+◌, ◌<◌, ◌++◌, ◌∷◌, [], List, ℕ, Bor, map, length, get_or, sym, ◌∙◌, arith}
-use Rattle.std.proofs.lemmas.List.{get_or-map, length-map, length_push}
-use Rattle.syn_app.specs.declared.readings.RowReading.{RowReading}
+use Rattle.std.proofs.Common.{◌<◌, [], List, ℕ, Bor, map, length, sym, ◌∙◌, arith}
+use Rattle.std.proofs.lemmas.List.{get_or-map, length-map}
 use Rattle.syn_app.proofs.RowTexts.{read_stops, read_more_rows}
 use Rattle.syn_app.proofs.derivation_text.read_rows.Goals as goal
 

@@ -1,4 +1,4 @@
-use Rattle.std.proofs.Common.{◌≤◌, arith}
+use Rattle.std.proofs.Common.{arith}
 use Rattle.syn_app.proofs.NumberTexts.{outside}
 use Rattle.syn_app.proofs.numbers.number_between.Goals as goal
 use Rattle.syn_app.proofs.numbers.number_between.Goals.{else-least-number-via-then-least-number+else-number-most, else-least-number-via-else-least-number}

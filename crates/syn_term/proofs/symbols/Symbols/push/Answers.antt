@@ -1,7 +1,7 @@
 use Rattle.std.proofs.Common.{◌∙◌, ap, length, arith}
 use Rattle.std.proofs.lemmas.List.{length-map}
 use Rattle.syn_term.specs.Symbols.{names_of}
-use Rattle.syn_term.proofs.KeyLemmas.{entry_last, keyed_more, symbol_last}
+use Rattle.syn_term.proofs.KeyLemmas.{distinct_table, entry_last, keyed_more, symbol_last}
 use Rattle.syn_term.proofs.symbols.Symbols.push.Goals as goal
 
 pub invariant_of-self : goal.invariant_of-self
@@ -22,3 +22,7 @@ returns-in-Ok-insert-clause-ok c =
       omega (arith, c.in-Ok.ensures, c.len.ensures.len),
       symbol_last c.args.self.now c.in_ok-name.name c.args.sym c.self.inside.by_name.entries c.insert.new.self.entries c.self.inside.sorts c.self.view_is is,
     )
+
+pub returns-in-Ok-insert-clause-distinct : goal.returns-in-Ok-insert-clause-distinct
+returns-in-Ok-insert-clause-distinct c =
+    distinct_table c.insert.new.self.entries c.self.inside.sorts (invariant_of-self c) c.insert.ensures.unique

@@ -1,4 +1,4 @@
-use Rattle.std.proofs.Common.{◌≡◌, ◌+◌, min, map, sum, take}
+use Rattle.std.proofs.Common.{◌≡◌, ◌+◌, min, take}
 use Rattle.std.specs.List.{sum_by}
 use Rattle.syn_term.specs.Terms.{nodes}
 use Rattle.syn_term.proofs.term.Shared+Node.+count.Given as goal
