@@ -20,3 +20,4 @@ pub mod Ending
 pub mod Exact
 pub mod Unique
 pub mod OneProgram
+pub mod PrintedProgram
