@@ -1,6 +1,6 @@
 -- What is printed for a closed term is the text of its program: a number up to 1,000 as it is, what is above it in
 -- brackets round 1000, and the input in its brackets.
-use Rattle.std.proofs.Common.{◌≡◌, ℕ, zero, suc, ◌+◌, ◌-◌, ◌<◌, ◌≤◌, ◌++◌, List, [], ◌∷◌, Option, None, Some, true, if◌then◌else◌, nat_lt, codes, decimal, refl, sym, ◌∙◌, ap, subst, arith, ⊎_elim}
+use Rattle.std.proofs.Common.{◌≡◌, ℕ, zero, suc, ◌+◌, ◌-◌, ◌<◌, ◌≤◌, List, [], ◌∷◌, None, Some, true, if◌then◌else◌, nat_lt, codes, refl, sym, ◌∙◌, ap, subst, arith, ⊎_elim}
 use Rattle.std.proofs.lemmas.Bool.{cases_lt}
 use Rattle.std.proofs.lemmas.Bool.Decides.{nat_tests}
 use Rattle.syn_term.specs.declared.sorts.Sort.TheVariants as sort
@@ -13,7 +13,7 @@ use Rattle.syn_model.specs.ProgramText.{Printed, applied_text, number_text, prin
 use Rattle.syn_app.specs.declared.readings.Base.{Base}
 use Rattle.syn_app.specs.declared.readings.Base.TheVariants as base
 use Rattle.syn_app.specs.declared.readings.TermReading.{TermReading}
-use Rattle.syn_app.specs.Printing.{nat_input_symbol, nat_program, nat_program_symbols, printing_of}
+use Rattle.syn_app.specs.Printing.{nat_program, nat_program_symbols, printing_of}
 use Rattle.syn_app.specs.ProgramTexts.{IsProgramText, program_lines, program_over}
 use Rattle.syn_app.specs.SpecText.{nat_declared}
 use Rattle.syn_app.specs.Terms.{IsBase, IsClosed, base_tree, input_id, succ_id, successors_of, term_size, term_text, term_tree, wrapped, zero_id}
@@ -71,8 +71,7 @@ module _ (table : SymbolTable) (zero_there : symbol_at table zero_id ≡ Some ze
   brackets-printing (suc j) t h =
       let r = brackets-printing j t h in
       let p = printing_of table (successors_of j t) in
-      let e : printing_of table (successors_of (suc j) t) ≡ applied_text (codes "s") (p ∷ []) = successor-printing (successors_of j t) p refl ∙ r.1 in
-      (
+      let e : printing_of table (successors_of (suc j) t) ≡ applied_text (codes "s") (p ∷ []) = successor-printing (successors_of j t) p refl ∙ r.1 in (
         ap (λ (q : Printed). q.text) e ∙ ap (λ (z : List ℕ). wrapped 1 z) r.0,
         subst InBrackets (sym e) refl,
       )
