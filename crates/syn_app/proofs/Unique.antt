@@ -261,17 +261,17 @@ three_names a b c x y z e f g = cc
 three_words : (w a b c x y z : List ℕ) → w ∷ a ∷ b ∷ c ∷ [] ≡ w ∷ x ∷ y ∷ z ∷ [] → (a ≡ x) × (b ≡ y) × (c ≡ z)
 three_words w a b c x y z e = (cc, cc, cc)
 
-same_words : (s : Scene) (n m : FileNames) → AreWords s n → AreWords s m → m ≡ n
-same_words s n m a b =
+same_words : (words : List (List ℕ)) (n m : FileNames) → AreWords words n → AreWords words m → m ≡ n
+same_words words n m a b =
     let e = three_words (codes "check") m.theory m.spec m.deriv n.theory n.spec n.deriv (sym b.is ∙ a.is) in
     three_names m.theory m.spec m.deriv n.theory n.spec n.deriv e.0 e.1 e.2
 
 -- what the files ask for comes, or want of memory
-pub asked_comes : (s : Scene) (fs : List File) (n : FileNames) (r q : Status) → IsQuiet s fs → AreWords s n → Settles fs n r → Comes s q → (q ≡ r) ⊎ (q ≡ status.NoMemory)
-asked_comes s fs n r q quiet words asked (inl none) = absurd (none.0 n.theory n.spec n.deriv words)
-asked_comes s fs n r q quiet words asked (inr h) =
-    let told : ComesFor (record s { files = Some fs }) h.0 q = subst (λ (z : Option (List File)). ComesFor (record s { files = z }) h.0 q) quiet.told h.1.1 in
-    elim (told_settles s fs quiet.reads quiet.faults h.0 q told) [
+pub asked_comes : (s : Scene) (fs : List File) (n : FileNames) (r q : Status) → s.files ≡ Some fs → IsQuiet s.reads s.reads_after → IsQuiet s.faults s.faults_after → AreWords s.words n → Settles fs n r → Comes s q → (q ≡ r) ⊎ (q ≡ status.NoMemory)
+asked_comes s fs n r q files reads faults words asked (inl none) = absurd (none.0 n.theory n.spec n.deriv words)
+asked_comes s fs n r q files reads faults words asked (inr h) =
+    let told : ComesFor (record s { files = Some fs }) h.0 q = subst (λ (z : Option (List File)). ComesFor (record s { files = z }) h.0 q) files h.1.1 in
+    elim (told_settles s fs reads faults h.0 q told) [
       | inl memory ↦ inr memory
-      | inr settles ↦ inl (settles_once fs n q r (subst (λ (z : FileNames). Settles fs z q) (same_words s n h.0 words h.1.0) settles) asked)
+      | inr settles ↦ inl (settles_once fs n q r (subst (λ (z : FileNames). Settles fs z q) (same_words s.words n h.0 words h.1.0) settles) asked)
     ]

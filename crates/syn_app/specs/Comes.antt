@@ -43,8 +43,9 @@ file_name n which.Theory = n.theory
 file_name n which.Spec = n.spec
 file_name n which.Derivation = n.deriv
 
-abbrev pub AreWords : Scene → FileNames → Type 0
-AreWords s n = IsCheck s.words n.theory n.spec n.deriv
+-- the words are a check of these files
+abbrev pub AreWords : List (List ℕ) → FileNames → Type 0
+AreWords words n = IsCheck words n.theory n.spec n.deriv
 
 -- a file of at most 4,194,304 bytes, and one of more
 abbrev pub IsShort : List ℕ → Type 0
@@ -54,14 +55,14 @@ abbrev pub IsLong : List ℕ → Type 0
 IsLong bytes = 4194304 < length bytes
 
 -- the bytes of the file have the property, where files are told
-abbrev pub OfTheory : Scene → FileNames → (List ℕ → Type 0) → Type 0
-OfTheory s n P = Told P s.files n.theory
+abbrev pub OfTheory : Option (List File) → FileNames → (List ℕ → Type 0) → Type 0
+OfTheory files n P = Told P files n.theory
 
-abbrev pub OfSpec : Scene → FileNames → (List ℕ → List ℕ → Type 0) → Type 0
-OfSpec s n P = OfTheory s n (λ a. Told (P a) s.files n.spec)
+abbrev pub OfSpec : Option (List File) → FileNames → (List ℕ → List ℕ → Type 0) → Type 0
+OfSpec files n P = OfTheory files n (λ a. Told (P a) files n.spec)
 
-abbrev pub OfDerivation : Scene → FileNames → (List ℕ → List ℕ → List ℕ → Type 0) → Type 0
-OfDerivation s n P = OfSpec s n (λ a b. Told (P a b) s.files n.deriv)
+abbrev pub OfDerivation : Option (List File) → FileNames → (List ℕ → List ℕ → List ℕ → Type 0) → Type 0
+OfDerivation files n P = OfSpec files n (λ a b. Told (P a b) files n.deriv)
 
 -- the bytes are a text, short enough, of this theory, this specification, this derivation
 abbrev pub ReadsTheory : List ℕ → TheoryTree → Type 0
@@ -76,6 +77,17 @@ GoodTheory a = (theory : TheoryTree) × ReadsTheory a theory
 
 abbrev pub GoodSpec : List ℕ → List ℕ → Type 0
 GoodSpec a b = GoodTheory a × ((spec : SpecTree) × ReadsSpec b spec)
+
+-- line k of the theory is the first bad one; of the specification, where the theory is one; of the derivation, where
+-- both are
+abbrev pub IsBadTheory : ℕ → List ℕ → Type 0
+IsBadTheory k a = IsShort a × IsFirstBad ExtendsTheory WholeTheory a k
+
+abbrev pub IsBadSpec : ℕ → List ℕ → List ℕ → Type 0
+IsBadSpec k a b = GoodTheory a × (IsShort b × IsFirstBad ExtendsSpec WholeSpec b k)
+
+abbrev pub IsBadDerivation : ℕ → List ℕ → List ℕ → List ℕ → Type 0
+IsBadDerivation k a b d = GoodTheory a × ((spec : SpecTree) × (ReadsSpec b spec × ((input : List ℕ) × (HasInput spec input × (IsShort d × IsFirstBad (ExtendsDerivation input) WholeDerivation d k)))))
 
 -- the texts of a theory, a specification and a derivation for its input, all short enough
 pub record AreTexts (a b d : List ℕ) (theory : TheoryTree) (spec : SpecTree) (input : List ℕ) (entries : List Entry) : Type 0 where
@@ -95,29 +107,29 @@ Writing P theory spec entries = (p : ProgramTree) × (IsProven theory spec entri
 
 -- some first bytes of the program's text were put
 abbrev pub WritesPart : Scene → FileNames → Type 0
-WritesPart s n = OfDerivation s n (OfTexts (Writing (AddsPrefix s.text s.text_after)))
+WritesPart s n = OfDerivation s.files n (OfTexts (Writing (AddsPrefix s.text s.text_after)))
 
 -- when the status comes, for these names
 abbrev pub ComesFor : Scene → FileNames → Status → Type 0
 ComesFor s n status.Words = ⊥
 ComesFor s n (status.ReadFault which.Theory) = HasCause s.reads s.reads_after s.files n.theory
-ComesFor s n (status.TooLong which.Theory) = OfTheory s n IsLong
-ComesFor s n (status.BadTheory k) = OfTheory s n (λ a. IsShort a × IsFirstBad ExtendsTheory WholeTheory a k)
-ComesFor s n (status.ReadFault which.Spec) = OfTheory s n GoodTheory × HasCause s.reads s.reads_after s.files n.spec
-ComesFor s n (status.TooLong which.Spec) = OfSpec s n (λ a b. GoodTheory a × IsLong b)
-ComesFor s n (status.BadSpec k) = OfSpec s n (λ a b. GoodTheory a × (IsShort b × IsFirstBad ExtendsSpec WholeSpec b k))
-ComesFor s n (status.ReadFault which.Derivation) = OfSpec s n GoodSpec × HasCause s.reads s.reads_after s.files n.deriv
-ComesFor s n (status.TooLong which.Derivation) = OfDerivation s n (λ a b d. GoodSpec a b × IsLong d)
-ComesFor s n (status.BadDerivation k) = OfDerivation s n (λ a b d. GoodTheory a × ((spec : SpecTree) × (ReadsSpec b spec × ((input : List ℕ) × (HasInput spec input × (IsShort d × IsFirstBad (ExtendsDerivation input) WholeDerivation d k))))))
-ComesFor s n (status.NotFollows k) = OfDerivation s n (OfTexts (λ theory spec entries. IsFirstToFail spec entries k))
-ComesFor s n status.NotFinal = OfDerivation s n (OfTexts IsUnfinished)
+ComesFor s n (status.TooLong which.Theory) = OfTheory s.files n IsLong
+ComesFor s n (status.BadTheory k) = OfTheory s.files n (IsBadTheory k)
+ComesFor s n (status.ReadFault which.Spec) = OfTheory s.files n GoodTheory × HasCause s.reads s.reads_after s.files n.spec
+ComesFor s n (status.TooLong which.Spec) = OfSpec s.files n (λ a b. GoodTheory a × IsLong b)
+ComesFor s n (status.BadSpec k) = OfSpec s.files n (IsBadSpec k)
+ComesFor s n (status.ReadFault which.Derivation) = OfSpec s.files n GoodSpec × HasCause s.reads s.reads_after s.files n.deriv
+ComesFor s n (status.TooLong which.Derivation) = OfDerivation s.files n (λ a b d. GoodSpec a b × IsLong d)
+ComesFor s n (status.BadDerivation k) = OfDerivation s.files n (IsBadDerivation k)
+ComesFor s n (status.NotFollows k) = OfDerivation s.files n (OfTexts (λ theory spec entries. IsFirstToFail spec entries k))
+ComesFor s n status.NotFinal = OfDerivation s.files n (OfTexts IsUnfinished)
 ComesFor s n status.WriteFault = WritesPart s n × Rose s.faults s.faults_after
 ComesFor s n status.NoMemory = (s.text_after ≡ s.text) ⊎ WritesPart s n
-ComesFor s n status.Done = OfDerivation s n (OfTexts (Writing (Adds s.text s.text_after)))
+ComesFor s n status.Done = OfDerivation s.files n (OfTexts (Writing (Adds s.text s.text_after)))
 
 -- when the status comes
 abbrev pub Comes : Scene → Status → Type 0
-Comes s r = (IsNoCheck s.words × (r ≡ status.Words)) ⊎ ((n : FileNames) × (AreWords s n × ComesFor s n r))
+Comes s r = (IsNoCheck s.words × (r ≡ status.Words)) ⊎ ((n : FileNames) × (AreWords s.words n × ComesFor s n r))
 
 -- a refusal before the write
 abbrev pub IsRefusal : Status → Type 0
@@ -126,14 +138,21 @@ IsRefusal status.WriteFault = ⊥
 IsRefusal status.NoMemory = ⊥
 IsRefusal _ = Unit {0}
 
+-- the words fit, and P holds of the bytes of the first file; of the first two
+abbrev pub OfFirst : List (List ℕ) → Option (List File) → (List ℕ → Type 0) → Type 0
+OfFirst words files P = (n : FileNames) × (AreWords words n × OfTheory files n P)
+
+abbrev pub OfSecond : List (List ℕ) → Option (List File) → (List ℕ → List ℕ → Type 0) → Type 0
+OfSecond words files P = (n : FileNames) × (AreWords words n × OfSpec files n P)
+
 -- the words fit, and P holds of the bytes of the three files, where files are told
-abbrev pub OfFiles : Scene → (List ℕ → List ℕ → List ℕ → Type 0) → Type 0
-OfFiles s P = (n : FileNames) × (AreWords s n × OfDerivation s n P)
+abbrev pub OfFiles : List (List ℕ) → Option (List File) → (List ℕ → List ℕ → List ℕ → Type 0) → Type 0
+OfFiles words files P = (n : FileNames) × (AreWords words n × OfDerivation files n P)
 
 -- the words fit, and there is a cause for a fault of reading this file
-abbrev pub FaultOf : Scene → Which → Type 0
-FaultOf s w = (n : FileNames) × (AreWords s n × HasCause s.reads s.reads_after s.files (file_name n w))
+abbrev pub FaultOf : List (List ℕ) → Option (List File) → ℕ → ℕ → Which → Type 0
+FaultOf words files before now w = (n : FileNames) × (AreWords words n × HasCause before now files (file_name n w))
 
 -- the words fit, and this file is too long, where files are told
-abbrev pub LengthOf : Scene → Which → Type 0
-LengthOf s w = (n : FileNames) × (AreWords s n × Told IsLong s.files (file_name n w))
+abbrev pub LengthOf : List (List ℕ) → Option (List File) → Which → Type 0
+LengthOf words files w = (n : FileNames) × (AreWords words n × Told IsLong files (file_name n w))

@@ -13,7 +13,7 @@ use Rattle.syn_app.specs.TheoryText.{ExtendsTheory, WholeTheory}
 use Rattle.syn_app.specs.SpecText.{ExtendsSpec, HasInput, WholeSpec}
 use Rattle.syn_app.specs.DerivationText.{ExtendsDerivation, IsDerivationText, WholeDerivation}
 use Rattle.syn_app.specs.Replay.{IsAccepted, IsFirstToFail, IsUnfinished}
-use Rattle.syn_app.specs.Comes.{FileNames, IsLong, IsShort, ReadsSpec, ReadsTheory, Scene}
+use Rattle.syn_app.specs.Comes.{FileNames, IsLong, IsShort, ReadsSpec, ReadsTheory}
 
 -- the file isn't among these; it is there, and P holds of its bytes
 abbrev pub IsMissing : List File → List ℕ → Type 0
@@ -78,8 +78,6 @@ AfterTheory fs n r = (theory : TheoryTree) × (Has fs n.theory (λ a. ReadsTheor
 abbrev pub Settles : List File → FileNames → Status → Type 0
 Settles fs n r = TheorySettles fs n r ⊎ AfterTheory fs n r
 
--- the files are these, no fault is counted in the call, and no counter stands at its last value
-pub record IsQuiet (s : Scene) (fs : List File) : Type 0 where
-  pub told : s.files ≡ Some fs
-  pub reads : ¬ (Rose s.reads s.reads_after)
-  pub faults : ¬ (Rose s.faults s.faults_after)
+-- no fault is counted from before to now, and the counter doesn't stand at its last value
+abbrev pub IsQuiet : ℕ → ℕ → Type 0
+IsQuiet before now = ¬ (Rose before now)

@@ -5,7 +5,7 @@ ghost use Rattle.syn_outside.specs.Faults.{Rose};
 ghost use Rattle.syn_outside.specs.Files.{File};
 ghost use Rattle.syn_outside.specs.Texts.{Adds, AddsPrefix};
 ghost use Rattle.syn_model.specs.Trees.{ProgramTree};
-ghost use Rattle.syn_app.specs.Comes.{AreWords, Comes, ComesFor, FaultOf, FileNames, IsRefusal, LengthOf, OfFiles, OfTexts, Writing};
+ghost use Rattle.syn_app.specs.Comes.{AreWords, Comes, ComesFor, FaultOf, FileNames, IsBadDerivation, IsBadSpec, IsBadTheory, IsRefusal, LengthOf, OfFiles, OfFirst, OfSecond, OfTexts, Writing};
 ghost use Rattle.syn_app.specs.ProgramTexts.{IsProgramText};
 ghost use Rattle.syn_app.specs.Replay.{IsFirstToFail, IsUnfinished};
 ghost use Rattle.syn_app.specs.Settled.{IsQuiet, Settles};
@@ -72,30 +72,32 @@ pub fn synth<C: Cabinet, S: Sink>(
     // Done: the derivation is accepted, its program is of primitive symbols alone and correct where
     // the axioms hold, and the sink has gained exactly the printed program, which is a text of it.
     // Bytes are the text of one program at most.
-    ensures done { result ≡ Status.Done → OfFiles (record { words = map string_bytes words.now; files = C.files cab.old; reads = C.read_faults cab.old; reads_after = C.read_faults cab.new; text = S.text out.old; text_after = S.text out.new; faults = S.faults out.old; faults_after = S.faults out.new }) (OfTexts (Writing (Adds (S.text out.old) (S.text out.new)))) }
-
+    ensures done { result ≡ Status.Done → OfFiles (map string_bytes words.now) (C.files cab.old) (OfTexts (Writing (Adds (S.text out.old) (S.text out.new)))) }
     ensures program_once { (bytes : List ℕ) (p q : ProgramTree) → IsProgramText bytes p → IsProgramText bytes q → p ≡ q }
 
-    // The refusals that are exact, and those that come only for a cause.
+    // What each refusal says of the words and the files.
     ensures words { (result ≡ Status.Words) ↔ IsNoCheck (map string_bytes words.now) }
-    ensures read_fault { (w : Which) → result ≡ Status.ReadFault w → FaultOf (record { words = map string_bytes words.now; files = C.files cab.old; reads = C.read_faults cab.old; reads_after = C.read_faults cab.new; text = S.text out.old; text_after = S.text out.new; faults = S.faults out.old; faults_after = S.faults out.new }) w }
-    ensures too_long { (w : Which) → result ≡ Status.TooLong w → LengthOf (record { words = map string_bytes words.now; files = C.files cab.old; reads = C.read_faults cab.old; reads_after = C.read_faults cab.new; text = S.text out.old; text_after = S.text out.new; faults = S.faults out.old; faults_after = S.faults out.new }) w }
-    ensures not_follows { (k : ℕ) → result ≡ Status.NotFollows k → OfFiles (record { words = map string_bytes words.now; files = C.files cab.old; reads = C.read_faults cab.old; reads_after = C.read_faults cab.new; text = S.text out.old; text_after = S.text out.new; faults = S.faults out.old; faults_after = S.faults out.new }) (OfTexts (λ theory spec entries. IsFirstToFail spec entries k)) }
-    ensures not_final { result ≡ Status.NotFinal → OfFiles (record { words = map string_bytes words.now; files = C.files cab.old; reads = C.read_faults cab.old; reads_after = C.read_faults cab.new; text = S.text out.old; text_after = S.text out.new; faults = S.faults out.old; faults_after = S.faults out.new }) (OfTexts IsUnfinished) }
+    ensures read_fault { (w : Which) → result ≡ Status.ReadFault w → FaultOf (map string_bytes words.now) (C.files cab.old) (C.read_faults cab.old) (C.read_faults cab.new) w }
+    ensures too_long { (w : Which) → result ≡ Status.TooLong w → LengthOf (map string_bytes words.now) (C.files cab.old) w }
+    ensures bad_theory { (k : ℕ) → result ≡ Status.BadTheory k → OfFirst (map string_bytes words.now) (C.files cab.old) (IsBadTheory k) }
+    ensures bad_spec { (k : ℕ) → result ≡ Status.BadSpec k → OfSecond (map string_bytes words.now) (C.files cab.old) (IsBadSpec k) }
+    ensures bad_derivation { (k : ℕ) → result ≡ Status.BadDerivation k → OfFiles (map string_bytes words.now) (C.files cab.old) (IsBadDerivation k) }
+    ensures not_follows { (k : ℕ) → result ≡ Status.NotFollows k → OfFiles (map string_bytes words.now) (C.files cab.old) (OfTexts (λ theory spec entries. IsFirstToFail spec entries k)) }
+    ensures not_final { result ≡ Status.NotFinal → OfFiles (map string_bytes words.now) (C.files cab.old) (OfTexts IsUnfinished) }
     ensures write_fault { result ≡ Status.WriteFault → Rose (S.faults out.old) (S.faults out.new) }
 
     // Exactly: where files are told, no fault is counted and no counter stands at its last value, the
     // status is the one that the words and the files ask for, Done among them, or NoMemory. They ask
     // for one at most.
-    ensures exact { (fs : List File) (n : FileNames) (r : Status) → IsQuiet (record { words = map string_bytes words.now; files = C.files cab.old; reads = C.read_faults cab.old; reads_after = C.read_faults cab.new; text = S.text out.old; text_after = S.text out.new; faults = S.faults out.old; faults_after = S.faults out.new }) fs → AreWords (record { words = map string_bytes words.now; files = C.files cab.old; reads = C.read_faults cab.old; reads_after = C.read_faults cab.new; text = S.text out.old; text_after = S.text out.new; faults = S.faults out.old; faults_after = S.faults out.new }) n → Settles fs n r → (result ≡ r) ⊎ (result ≡ Status.NoMemory) }
+    ensures exact { (fs : List File) (n : FileNames) (r : Status) → C.files cab.old ≡ Some fs → IsQuiet (C.read_faults cab.old) (C.read_faults cab.new) → IsQuiet (S.faults out.old) (S.faults out.new) → AreWords (map string_bytes words.now) n → Settles fs n r → (result ≡ r) ⊎ (result ≡ Status.NoMemory) }
     ensures one { (fs : List File) (n : FileNames) (r q : Status) → Settles fs n r → Settles fs n q → r ≡ q }
 
     // What stays: the files always; the sink's text after a refusal before the write. After a fault
     // or want of memory in the write some first bytes of the program's text were put.
     ensures files { C.files cab.new ≡ C.files cab.old }
     ensures before { IsRefusal result → S.text out.new ≡ S.text out.old }
-    ensures part { result ≡ Status.WriteFault → OfFiles (record { words = map string_bytes words.now; files = C.files cab.old; reads = C.read_faults cab.old; reads_after = C.read_faults cab.new; text = S.text out.old; text_after = S.text out.new; faults = S.faults out.old; faults_after = S.faults out.new }) (OfTexts (Writing (AddsPrefix (S.text out.old) (S.text out.new)))) }
-    ensures memory { result ≡ Status.NoMemory → (S.text out.new ≡ S.text out.old) ⊎ OfFiles (record { words = map string_bytes words.now; files = C.files cab.old; reads = C.read_faults cab.old; reads_after = C.read_faults cab.new; text = S.text out.old; text_after = S.text out.new; faults = S.faults out.old; faults_after = S.faults out.new }) (OfTexts (Writing (AddsPrefix (S.text out.old) (S.text out.new)))) }
+    ensures part { result ≡ Status.WriteFault → OfFiles (map string_bytes words.now) (C.files cab.old) (OfTexts (Writing (AddsPrefix (S.text out.old) (S.text out.new)))) }
+    ensures memory { result ≡ Status.NoMemory → (S.text out.new ≡ S.text out.old) ⊎ OfFiles (map string_bytes words.now) (C.files cab.old) (OfTexts (Writing (AddsPrefix (S.text out.old) (S.text out.new)))) }
 {
     run(alloc, words, cab, out)
 }

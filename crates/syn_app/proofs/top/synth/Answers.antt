@@ -3,7 +3,7 @@ use Rattle.syn_app.proofs.Unique.{asked_comes, settles_once}
 use Rattle.syn_app.proofs.top.synth.Goals as goal
 
 pub returns-clause-exact : goal.returns-clause-exact
-returns-clause-exact g c = λ fs n r quiet words asked. asked_comes _ fs n r _ quiet words asked c.run.ensures.comes
+returns-clause-exact g c = λ fs n r files reads faults words asked. asked_comes _ fs n r _ files reads faults words asked c.run.ensures.comes
 
 pub returns-clause-one : goal.returns-clause-one
 returns-clause-one g c = settles_once
