@@ -11,9 +11,10 @@ use Rattle.syn_term.specs.Symbols.{SymbolTable, symbol_at}
 use Rattle.syn_term.proofs.Trees.{fold-App}
 use Rattle.syn_model.specs.declared.trees.Form.TheVariants as form
 use Rattle.syn_model.specs.declared.trees.Out.TheVariants as out
-use Rattle.syn_model.specs.Trees.{FormTree, OutTree, TheoryTree, SpecTree, ProgramTree, spec_symbols}
-use Rattle.syn_model.specs.Primitive.{IsPrimitiveTerm, primitive_step, primitive_symbol}
+use Rattle.syn_model.specs.Trees.{FormTree, OutTree, TheoryTree, SpecTree, ProgramTree, program_symbols, spec_symbols}
+use Rattle.syn_model.specs.Primitive.{IsPrimitiveProgram, IsPrimitiveTerm, primitive_step, primitive_symbol}
 use Rattle.syn_model.specs.Correctness.{IsCorrect}
+use Rattle.syn_model.specs.ProgramText.{printed_program}
 use Rattle.syn_app.specs.declared.readings.Base.{Base}
 use Rattle.syn_app.specs.declared.readings.Base.TheVariants as base
 use Rattle.syn_app.specs.declared.readings.Row.{Row}
@@ -30,12 +31,14 @@ use Rattle.syn_app.specs.Printing.{nat_program}
 use Rattle.syn_app.specs.Rows.{bare_form, bare_row, simplified_row}
 use Rattle.syn_app.specs.Replay.{FollowsAt, IsUnfinished, closed_term, last_row, program_of_row, row_at, simplified_entry, simplified_rows}
 use Rattle.syn_app.specs.Shapes.{AreShaped, FirstUnshaped, HasShape, IsTarget, ShapedAt, StepGives, row_variable, solved_goal}
-use Rattle.syn_app.specs.SpecText.{IsCondition, ProgramNames, ensures_of, nat_declared, spec_of}
+use Rattle.syn_app.specs.ProgramTexts.{IsProgramText}
+use Rattle.syn_app.specs.SpecText.{AreProgramNames, IsCondition, ProgramNames, ensures_of, nat_declared, spec_of}
 use Rattle.syn_app.specs.Checks.{EndsOtherwise, EndsWith, FailsCheck, IsProven}
-use Rattle.syn_app.specs.Terms.{IsClosed, base_tree, input_id, succ_id, successors_of, term_tree, zero_id}
+use Rattle.syn_app.specs.Terms.{IsClosed, base_tree, input_id, succ_id, successors_of, term_size, term_tree, zero_id}
 use Rattle.syn_app.proofs.Closed.{closed_term-closed, depth_of-term_tree, bare-term_tree}
 use Rattle.syn_app.proofs.Correct.{solved_correct, solved_program}
 use Rattle.syn_app.proofs.Numbered.{shapes_before}
+use Rattle.syn_app.proofs.PrintedProgram.{printed_is_text}
 use Rattle.syn_app.proofs.Simplified.{bare_row-simplified}
 use Rattle.syn_app.proofs.Steps.{follows_from, follows_to}
 
@@ -43,13 +46,16 @@ use Rattle.syn_app.proofs.Steps.{follows_from, follows_to}
 abbrev nat_body : ProgramNames → TermTree → ProgramTree
 nat_body n body = record { name = n.program; inputs = nat_declared n.input ∷ []; result = sort.Nat; body = out.Give body }
 
--- the condition's term is the target of its specification
-pub is_target : (name : List ℕ) (n : ProgramNames) (r : TermReading) (t : TermTree) → IsCondition r → t ≡ term_tree r → IsTarget t (spec_of name n r)
-is_target name n r t condition is =
+-- an output condition's term is one node less deep than the condition may be
+condition_short : (r : TermReading) → IsCondition r → term_size r ≤ 1199
+condition_short r condition =
     let d = depth_of-term_tree r in
     let fits : FitsForm (ensures_of r) = condition.fits in
-    let deep : 1 + max (depth_of _) (depth_of (term_tree r)) ≤ 1200 = fits.1 in
-    record { reading = r; closed = condition.closed; short = omega arith; is = is; condition = refl }
+    let deep : 1 + max (depth_of _) (depth_of (term_tree r)) ≤ 1200 = fits.1 in omega arith
+
+-- the condition's term is the target of its specification
+pub is_target : (name : List ℕ) (n : ProgramNames) (r : TermReading) (t : TermTree) → IsCondition r → t ≡ term_tree r → IsTarget t (spec_of name n r)
+is_target name n r t condition is = record { reading = r; closed = condition.closed; short = condition_short r condition; is = is; condition = refl }
 
 -- a row that was read has no places once it is simplified
 bare-form : (f : FormReading) → bare_form (form_tree f) ≡ form_tree f
@@ -194,9 +200,18 @@ module _ (theory : TheoryTree) (name : List ℕ) (n : ProgramNames) (r : TermRea
     closed_is : closed_term (bare x) ≡ bare x
     closed_is = ap closed_term body_is ∙ (closed_term-closed r condition.closed ∙ sym body_is)
 
+    -- the program is of primitive symbols alone, and what is printed for it is a text of it
+    primitive : IsPrimitiveProgram theory (nat_program n.program n.input x)
+    primitive = subst (IsPrimitiveProgram theory) (sym program_is) (closed-primitive (program_symbols theory (solved_program n r)) refl refl refl r condition.closed)
+
+    has_text : AreProgramNames n → IsProgramText (printed_program theory (nat_program n.program n.input x)) (nat_program n.program n.input x)
+    has_text names =
+        let short = condition_short r condition in
+        subst (λ (p : ProgramTree). IsProgramText (printed_program theory p) p) (sym program_is) (printed_is_text n.program n.input theory r names.program names.input names.program_input condition.closed (omega arith))
+
     -- the derivation is accepted, and its program is correct
-    pub proven : IsProven theory (spec_of name n r) (map entry_of rows) (nat_program n.program n.input x)
-    proven = record {
+    pub proven : AreProgramNames n → IsProven theory (spec_of name n r) (map entry_of rows) (nat_program n.program n.input x)
+    proven names = record {
       accepted = record {
         follow = follow;
         last = solved_goal (bare x);
@@ -208,6 +223,8 @@ module _ (theory : TheoryTree) (name : List ℕ) (n : ProgramNames) (r : TermRea
       };
       program = ap (option_map (program_of_row (spec_of name n r))) last_is ∙ ap (λ (z : TermTree). Some (nat_body n z)) closed_is;
       correct = λ axioms. subst (IsCorrect theory (spec_of name n r)) (sym program_is) (solved_correct theory name n r condition.closed);
+      primitive = primitive;
+      text = has_text names;
     }
 
 no_items : (ys : List Row) (y : Row) → ◌≡◌ {A = List Row} [] (ys ++ y ∷ []) → ⊥

@@ -19,3 +19,5 @@ pub mod Staged
 pub mod Ending
 pub mod Exact
 pub mod Unique
+pub mod OneProgram
+pub mod PrintedProgram

@@ -3,12 +3,15 @@ use Rattle.std.specs.Prelude.{◌≡◌, List, [], ◌∷◌, ◌++◌, Some}
 use Rattle.syn_term.specs.Terms.{TermTree}
 use Rattle.syn_model.specs.Trees.{TheoryTree, SpecTree, ProgramTree}
 use Rattle.syn_model.specs.Correctness.{IsCorrect}
+use Rattle.syn_model.specs.Primitive.{IsPrimitiveProgram}
+use Rattle.syn_model.specs.ProgramText.{printed_program}
 use Rattle.syn_model.specs.Truth.{AxiomsHold}
 use Rattle.syn_app.specs.declared.readings.Row.{Row}
 use Rattle.syn_app.specs.declared.readings.Entry.{Entry}
 use Rattle.syn_app.specs.declared.replay.CheckError.{CheckError}
 use Rattle.syn_app.specs.declared.replay.CheckError.TheVariants as error
 use Rattle.syn_app.specs.declared.spec_text.SpecReading.{SpecReading}
+use Rattle.syn_app.specs.ProgramTexts.{IsProgramText}
 use Rattle.syn_app.specs.Replay.{IsAccepted, IsFirstToFail, IsUnfinished, accepted_program}
 use Rattle.syn_app.specs.SpecText.{ProgramNames, spec_of}
 use Rattle.syn_app.specs.Shapes.{solved_goal}
@@ -20,11 +23,14 @@ reading_names s = record { program = s.program.now; input = s.input.now; output 
 abbrev pub reading_spec : SpecReading → SpecTree
 reading_spec s = spec_of s.name.now (reading_names s) s.term
 
--- the entries are accepted, and the program is theirs and, where the axioms hold, correct
+-- the entries are accepted, and the program is theirs, of primitive symbols alone and, where the axioms hold, correct;
+-- what is printed for it is a text of it
 pub record IsProven (theory : TheoryTree) (spec : SpecTree) (entries : List Entry) (p : ProgramTree) : Type 0 where
   pub accepted : IsAccepted theory spec entries
   pub program : accepted_program spec entries ≡ Some p
   pub correct : AxiomsHold theory → IsCorrect theory spec p
+  pub primitive : IsPrimitiveProgram theory p
+  pub text : IsProgramText (printed_program theory p) p
 
 -- why a derivation isn't accepted
 abbrev pub FailsCheck : SpecTree → List Entry → CheckError → Type 0

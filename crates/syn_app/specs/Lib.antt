@@ -15,3 +15,4 @@ pub mod Checks
 pub mod Comes
 pub mod Stages
 pub mod Settled
+pub mod ProgramTexts

@@ -4,7 +4,9 @@ ghost use Rattle.std.specs.Prelude.{◌≡◌, ◌↔◌, ◌⊎◌, ℕ, List, 
 ghost use Rattle.syn_outside.specs.Faults.{Rose};
 ghost use Rattle.syn_outside.specs.Files.{File};
 ghost use Rattle.syn_outside.specs.Texts.{Adds, AddsPrefix};
+ghost use Rattle.syn_model.specs.Trees.{ProgramTree};
 ghost use Rattle.syn_app.specs.Comes.{AreWords, Comes, ComesFor, FaultOf, FileNames, IsRefusal, LengthOf, OfFiles, OfTexts, Writing};
+ghost use Rattle.syn_app.specs.ProgramTexts.{IsProgramText};
 ghost use Rattle.syn_app.specs.Replay.{IsFirstToFail, IsUnfinished};
 ghost use Rattle.syn_app.specs.Settled.{IsQuiet, Settles};
 ghost use Rattle.syn_app.specs.Words.{IsNoCheck};
@@ -67,9 +69,12 @@ pub fn synth<C: Cabinet, S: Sink>(
     // When each status comes, as one relation: the clauses below follow from it.
     ensures comes { Comes (record { words = map string_bytes words.now; files = C.files cab.old; reads = C.read_faults cab.old; reads_after = C.read_faults cab.new; text = S.text out.old; text_after = S.text out.new; faults = S.faults out.old; faults_after = S.faults out.new }) result }
 
-    // Done: the derivation is accepted, its program is correct where the axioms hold, and the sink
-    // has gained exactly the printed program.
+    // Done: the derivation is accepted, its program is of primitive symbols alone and correct where
+    // the axioms hold, and the sink has gained exactly the printed program, which is a text of it.
+    // Bytes are the text of one program at most.
     ensures done { result ≡ Status.Done → OfFiles (record { words = map string_bytes words.now; files = C.files cab.old; reads = C.read_faults cab.old; reads_after = C.read_faults cab.new; text = S.text out.old; text_after = S.text out.new; faults = S.faults out.old; faults_after = S.faults out.new }) (OfTexts (Writing (Adds (S.text out.old) (S.text out.new)))) }
+
+    ensures program_once { (bytes : List ℕ) (p q : ProgramTree) → IsProgramText bytes p → IsProgramText bytes q → p ≡ q }
 
     // The refusals that are exact, and those that come only for a cause.
     ensures words { (result ≡ Status.Words) ↔ IsNoCheck (map string_bytes words.now) }

@@ -19,4 +19,4 @@ pub returns-in-None-clause-rows : goal.returns-in-None-clause-rows
 returns-in-None-clause-rows c = λ theory. unfinished theory _ _ _ c.requires.condition _ c.in_ok-target.ensures.tree _ _ c.in_ok-kept.ensures.rows.0 c.in_ok-kept.ensures.rows.1 c.in-None.ensures
 
 pub returns-in-Some-clause-rows : goal.returns-in-Some-clause-rows
-returns-in-Some-clause-rows c = λ theory. proven theory _ _ _ c.requires.condition _ c.in_ok-target.ensures.tree _ _ c.in_ok-kept.ensures.rows.0 c.in_ok-kept.ensures.rows.1 _ c.in-Some.ensures
+returns-in-Some-clause-rows c = λ theory. proven theory _ _ _ c.requires.condition _ c.in_ok-target.ensures.tree _ _ c.in_ok-kept.ensures.rows.0 c.in_ok-kept.ensures.rows.1 _ c.in-Some.ensures c.requires.names
