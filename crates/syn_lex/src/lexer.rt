@@ -1,0 +1,49 @@
+// A line as tokens. The loop asks at each place what begins there, and goes on behind it; so the
+// tokens are in order, only blanks lie between them, and the first place where nothing begins is
+// the one that is answered.
+ghost use Rattle.std.specs.Prelude.{◌≡◌, ◌++◌, ◌∷◌, [], OnOk, IfErr, MatchResult};
+ghost use Rattle.syn_lex.specs.Lexing.{Lexed, Refused, OneAnswer};
+
+use crate::begins::starts;
+use crate::token::{LexError, Token, What};
+use crate::words::after;
+use std::alloc::Global;
+
+fn push_token(tokens: &mut Vec<Token>, token: Token) -> Result<(), LexError>
+    ensures ok { OnOk result (tokens.new.items ≡ tokens.old.items ++ token ∷ []) }
+    ensures err { IfErr result (λ e. e ≡ LexError.NoMemory) }
+{
+    match tokens.push(token) {
+        Ok(()) => Ok(()),
+        Err(_) => Err(LexError::NoMemory),
+    }
+}
+
+fn scan(alloc: Global, line: &[u8]) -> Result<Vec<Token>, LexError>
+    ensures { MatchResult result (λ found. Lexed line.now found.items) (Refused line.now) }
+{
+    let mut found = Vec::new(alloc);
+    let mut at = 0;
+    while at < line.len() {
+        match starts(after(line, at)) {
+            What::Gap => at += 1,
+            What::Over => return Ok(found),
+            What::Bad(n) => return Err(LexError::At((at + n) as u64)),
+            What::Token(kind, n) => {
+                push_token(&mut found, Token { kind, from: at as u64, to: (at + n) as u64 })?;
+                at += n;
+            }
+        }
+    }
+    Ok(found)
+}
+
+/// The tokens of a line, in order, each the longest at its place. Between them lie spaces, tabs and
+/// carriage returns, and behind them at most a comment, which `#` begins. `At(p)` is answered where
+/// the byte at `p` is the first that begins no token, blank or comment.
+pub fn tokens(alloc: Global, line: &[u8]) -> Result<Vec<Token>, LexError>
+    ensures answer { MatchResult result (λ found. Lexed line.now found.items) (Refused line.now) }
+    ensures one { OneAnswer line.now }
+{
+    scan(alloc, line)
+}
