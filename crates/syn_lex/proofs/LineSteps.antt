@@ -1,10 +1,10 @@
 -- The lines as a function of the bytes that are still to come, and that what it gives are the lines of the file.
-use Rattle.std.proofs.Common.{◌≡◌, ℕ, zero, suc, ◌+◌, ◌-◌, ◌<◌, ◌≤◌, ◌⊎◌, Bool, true, false, List, [], ◌∷◌, ◌++◌, cond, nat_eq, nat_lt, length, get_or, drop, refl, sym, ◌∙◌, ap, subst, arith, ⊎_elim, append-nil, true≢false}
+use Rattle.std.proofs.Common.{◌≡◌, ℕ, suc, ◌+◌, ◌-◌, ◌<◌, ◌≤◌, true, false, List, [], ◌∷◌, ◌++◌, cond, nat_eq, nat_lt, length, get_or, drop, refl, sym, ◌∙◌, ap, subst, arith, ⊎_elim}
 use Rattle.std.proofs.lemmas.Bool.Decides.{nat_tests}
 use Rattle.std.proofs.lemmas.Bool.{cases_lt}
 use Rattle.std.proofs.lemmas.List.{length-drop, get_or-drop, drop-drop, drop_all}
 use Rattle.syn_lex.specs.declared.lines.Line.{Line}
-use Rattle.syn_lex.specs.Lines.{IsLine, Lines}
+use Rattle.syn_lex.specs.Lines.{Lines}
 
 abbrev pub last_line : ℕ → ℕ → List Line
 last_line from to = cond (nat_lt from to) (record { from = from; to = to; ended = false } ∷ []) []

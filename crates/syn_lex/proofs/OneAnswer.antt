@@ -1,9 +1,8 @@
 -- A line has one answer at most. Two places that are reached over blanks and where no blank begins are one place; so two
 -- lists of tokens agree from the front on, and with them the places where they end.
-use Rattle.std.proofs.Common.{◌≡◌, ℕ, ◌+◌, ◌-◌, ◌<◌, ◌≤◌, List, [], ◌∷◌, length, drop, refl, sym, ◌∙◌, ap, subst, arith}
+use Rattle.std.proofs.Common.{◌≡◌, ℕ, ◌+◌, ◌-◌, ◌<◌, ◌≤◌, List, [], ◌∷◌, drop, refl, sym, ◌∙◌, ap, subst, arith}
 use Rattle.syn_lex.specs.declared.token.TokenKind.{TokenKind}
 use Rattle.syn_lex.specs.declared.token.Token.{Token}
-use Rattle.syn_lex.specs.declared.token.What.{What}
 use Rattle.syn_lex.specs.declared.token.What.TheVariants as what
 use Rattle.syn_lex.specs.Lexing.{starts, Blank, Spans, Lexed, Stuck, OneAnswer}
 

@@ -1,10 +1,9 @@
 -- The steps of the loop over a line: a blank more, a token more.
-use Rattle.std.proofs.Common.{◌≡◌, ℕ, ◌+◌, ◌-◌, ◌<◌, ◌≤◌, List, [], ◌∷◌, ◌++◌, length, drop, sym, ◌∙◌, ap, subst, arith, ⊎_elim}
+use Rattle.std.proofs.Common.{◌≡◌, ℕ, ◌+◌, ◌-◌, ◌<◌, ◌≤◌, List, [], ◌∷◌, ◌++◌, length, drop, ◌∙◌, ap, subst, arith, ⊎_elim}
 use Rattle.std.proofs.lemmas.Bool.{cases_lt}
 use Rattle.std.proofs.lemmas.List.{drop_all, length-drop}
 use Rattle.syn_lex.specs.declared.token.TokenKind.{TokenKind}
 use Rattle.syn_lex.specs.declared.token.Token.{Token}
-use Rattle.syn_lex.specs.declared.token.What.{What}
 use Rattle.syn_lex.specs.declared.token.What.TheVariants as what
 use Rattle.syn_lex.specs.Lexing.{starts, Blank, Spans}
 

@@ -1,6 +1,6 @@
 -- The tokens of a line. One function says what begins at a place; the rest follows from it: which tokens a line has, and
 -- which byte is the first that begins nothing.
-use Rattle.std.specs.Prelude.{◌≡◌, ℕ, ◌+◌, ◌-◌, ◌<◌, ◌≤◌, Bool, cond, not, ◌&&◌, ◌||◌, List, [], ◌∷◌, codes, length, get_or, take, drop, nat_eq, nat_lt}
+use Rattle.std.specs.Prelude.{◌≡◌, ℕ, ◌+◌, ◌-◌, ◌<◌, ◌≤◌, Bool, cond, ◌&&◌, ◌||◌, List, [], ◌∷◌, codes, length, get_or, take, drop, nat_eq, nat_lt}
 use Rattle.std.specs.Char.{encode_utf8, is_ascii_digit}
 use Rattle.std.specs.Str.{chars, bytes_eq}
 use Rattle.std.specs.Str.Lossy.{utf8_valid_len}

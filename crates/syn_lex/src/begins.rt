@@ -5,7 +5,9 @@ ghost use Rattle.std.specs.Str.Lossy.{utf8_valid_len};
 ghost use Rattle.syn_lex.specs.Lexing as lexing;
 
 use crate::token::{TokenKind, What};
-use crate::words::{after, byte_at, counted_len, name_len, number_len, sort_len, stop_len, tag_len, text_len};
+use crate::words::{
+    after, byte_at, counted_len, name_len, number_len, sort_len, stop_len, tag_len, text_len,
+};
 
 #[tactic(auto, unfolding(crate::specs::Lexing::row_len))]
 fn row_len(rest: &[u8]) -> usize
@@ -14,7 +16,11 @@ fn row_len(rest: &[u8]) -> usize
     ensures within { result ≤ length rest.now }
 {
     let n = counted_len(after(rest, 1));
-    if n == 0 { 0 } else { 1 + n + sort_len(after(rest, 1 + n)) }
+    if n == 0 {
+        0
+    } else {
+        1 + n + sort_len(after(rest, 1 + n))
+    }
 }
 
 #[tactic(auto, unfolding(crate::specs::Lexing::skolem_len))]
@@ -62,7 +68,11 @@ fn sign_len(rest: &[u8]) -> usize
 fn token(kind: TokenKind, n: usize) -> What
     ensures { result ≡ lexing.token kind n }
 {
-    if n == 0 { What::Bad(0) } else { What::Token(kind, n) }
+    if n == 0 {
+        What::Bad(0)
+    } else {
+        What::Token(kind, n)
+    }
 }
 
 #[tactic(auto, unfolding(crate::specs::Lexing::token_at))]
@@ -98,7 +108,11 @@ fn comment(rest: &[u8]) -> What
     ensures within { lexing.Within rest.now result }
 {
     let n = text_len(rest);
-    if n == rest.len() { What::Over } else { What::Bad(n) }
+    if n == rest.len() {
+        What::Over
+    } else {
+        What::Bad(n)
+    }
 }
 
 /// What begins where the rest of the line begins.

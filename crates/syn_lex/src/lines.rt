@@ -37,7 +37,14 @@ fn push_last(lines: &mut Vec<Line>, from: u64, to: u64) -> Result<(), NoMemory>
     ensures { OnOk result (lines.new.items ≡ lines.old.items ++ cond (nat_lt from to) (record { from = from; to = to; ended = false } ∷ []) []) }
 {
     if from < to {
-        push_line(lines, Line { from, to, ended: false })
+        push_line(
+            lines,
+            Line {
+                from,
+                to,
+                ended: false,
+            },
+        )
     } else {
         Ok(())
     }
@@ -55,9 +62,40 @@ pub fn split_lines(alloc: Global, bytes: &[u8]) -> Result<Vec<Line>, NoMemory>
         if *byte != b'\n' {
             continue;
         }
-        push_line(&mut lines, Line { from: from as u64, to: i as u64, ended: true })?;
+        push_line(
+            &mut lines,
+            Line {
+                from: from as u64,
+                to: i as u64,
+                ended: true,
+            },
+        )?;
         from = i + 1;
     }
     push_last(&mut lines, from as u64, bytes.len() as u64)?;
     Ok(lines)
+}
+
+#[cfg(test)]
+mod tests {
+    use super::*;
+
+    fn splits(alloc: Global, bytes: &[u8], expected: &[Line]) -> bool {
+        match split_lines(alloc, bytes) {
+            Ok(lines) => lines.as_slice() == expected,
+            Err(_) => false,
+        }
+    }
+
+    fn line(from: u64, to: u64, ended: bool) -> Line {
+        Line { from, to, ended }
+    }
+
+    #[test]
+    fn tells_lines(rt: HostRuntime) {
+        let lines = [line(0, 1, true), line(2, 2, true), line(3, 4, false)];
+        assert!(rt; splits(rt.alloc(), b"a\n\nb", &lines));
+        assert!(rt; splits(rt.alloc(), b"a\n", &[line(0, 1, true)]));
+        assert!(rt; splits(rt.alloc(), b"", &[]));
+    }
 }

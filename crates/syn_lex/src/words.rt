@@ -84,7 +84,13 @@ fn word_len(text: &str) -> usize
 {
     match text.chars().next() {
         None => 0,
-        Some(first) => { if is_xid_start(first) { run_len(text) } else { 0 } }
+        Some(first) => {
+            if is_xid_start(first) {
+                run_len(text)
+            } else {
+                0
+            }
+        }
     }
 }
 
@@ -134,7 +140,11 @@ pub(crate) fn tag_len(rest: &[u8]) -> usize
     ensures within { result ≤ length rest.now }
 {
     let n = name_len(rest);
-    if is_tag_word(front(rest, n)) { n } else { free_name_len(rest) }
+    if is_tag_word(front(rest, n)) {
+        n
+    } else {
+        free_name_len(rest)
+    }
 }
 
 fn digits(rest: &[u8]) -> usize
@@ -151,7 +161,11 @@ pub(crate) fn number_len(rest: &[u8]) -> usize
     ensures within { result ≤ length rest.now }
 {
     let n = digits(rest);
-    if byte_at(rest, 0) == b'0' && n > 1 { 0 } else { at_most(MAX_DIGITS, n) }
+    if byte_at(rest, 0) == b'0' && n > 1 {
+        0
+    } else {
+        at_most(MAX_DIGITS, n)
+    }
 }
 
 /// The length of the number from 1 at the front.
@@ -160,7 +174,11 @@ pub(crate) fn counted_len(rest: &[u8]) -> usize
     ensures value { result ≡ lexing.counted_len rest.now }
     ensures within { result ≤ length rest.now }
 {
-    if byte_at(rest, 0) == b'0' { 0 } else { at_most(MAX_DIGITS, digits(rest)) }
+    if byte_at(rest, 0) == b'0' {
+        0
+    } else {
+        at_most(MAX_DIGITS, digits(rest))
+    }
 }
 
 /// The length of a colon and a name at the front, where the name is no reserved word.

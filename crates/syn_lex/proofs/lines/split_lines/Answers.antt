@@ -1,4 +1,4 @@
-use Rattle.std.proofs.Common.{◌≡◌, length, arith}
+use Rattle.std.proofs.Common.{arith}
 use Rattle.syn_lex.proofs.LineSteps.{lines_at_end}
 use Rattle.syn_lex.proofs.lines.split_lines.Goals as goal
 
