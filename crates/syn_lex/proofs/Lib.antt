@@ -1,0 +1,4 @@
+pub mod LineSteps
+pub mod Runs
+pub mod TokenSteps
+pub mod OneAnswer

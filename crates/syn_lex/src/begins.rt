@@ -1,0 +1,135 @@
+// What begins at a place of a line. The first byte tells the kind of a token, and one function for
+// each kind tells its length; 0 says that none begins.
+ghost use Rattle.std.specs.Prelude.{◌≡◌, ◌≤◌, ◌<◌, length};
+ghost use Rattle.std.specs.Str.Lossy.{utf8_valid_len};
+ghost use Rattle.syn_lex.specs.Lexing as lexing;
+
+use crate::token::{TokenKind, What};
+use crate::words::{
+    after, byte_at, counted_len, name_len, number_len, sort_len, stop_len, tag_len, text_len,
+};
+
+#[tactic(auto, unfolding(crate::specs::Lexing::row_len))]
+fn row_len(rest: &[u8]) -> usize
+    requires { 0 < length rest.now }
+    ensures value { result ≡ lexing.row_len rest.now }
+    ensures within { result ≤ length rest.now }
+{
+    let n = counted_len(after(rest, 1));
+    if n == 0 {
+        0
+    } else {
+        1 + n + sort_len(after(rest, 1 + n))
+    }
+}
+
+#[tactic(auto, unfolding(crate::specs::Lexing::skolem_len))]
+fn skolem_len(rest: &[u8]) -> usize
+    requires { 0 < length rest.now }
+    ensures value { result ≡ lexing.skolem_len rest.now }
+    ensures within { result ≤ length rest.now }
+{
+    let n = tag_len(after(rest, 1));
+    if n == 0 {
+        return 0;
+    }
+    let stop = stop_len(after(rest, 1 + n));
+    if stop == 0 { 0 } else { 1 + n + stop }
+}
+
+fn is_single_sign(b: u8) -> bool
+    ensures { result ≡ lexing.is_single_sign b }
+{
+    b"(),:.|=".contains(&b)
+}
+
+fn sign_of(b: u8, c: u8, d: u8) -> usize
+    ensures { result ≡ lexing.sign_of b c d }
+{
+    if is_single_sign(b) {
+        1
+    } else if b == b'-' {
+        if c == b'>' { 2 } else { 1 }
+    } else if b == b'<' && c == b'-' && d == b'>' {
+        3
+    } else {
+        0
+    }
+}
+
+#[tactic(auto, unfolding(crate::specs::Lexing::sign_len))]
+fn sign_len(rest: &[u8]) -> usize
+    ensures value { result ≡ lexing.sign_len rest.now }
+    ensures within { result ≤ length rest.now }
+{
+    sign_of(byte_at(rest, 0), byte_at(rest, 1), byte_at(rest, 2))
+}
+
+fn token(kind: TokenKind, n: usize) -> What
+    ensures { result ≡ lexing.token kind n }
+{
+    if n == 0 {
+        What::Bad(0)
+    } else {
+        What::Token(kind, n)
+    }
+}
+
+#[tactic(auto, unfolding(crate::specs::Lexing::token_at))]
+fn token_at(rest: &[u8], b: u8) -> What
+    requires { 0 < length rest.now }
+    ensures value { result ≡ lexing.token_at rest.now b }
+    ensures within { lexing.Within rest.now result }
+{
+    if b.is_ascii_digit() {
+        return token(TokenKind::Number, number_len(rest));
+    }
+    if b == b'?' {
+        return token(TokenKind::RowVar, row_len(rest));
+    }
+    if b == b'!' {
+        return token(TokenKind::Skolem, skolem_len(rest));
+    }
+    let sign = sign_len(rest);
+    if sign == 0 {
+        return token(TokenKind::Name, name_len(rest));
+    }
+    What::Token(TokenKind::Sign, sign)
+}
+
+fn is_blank(b: u8) -> bool
+    ensures { result ≡ lexing.is_blank b }
+{
+    b == b' ' || b == b'\t' || b == b'\r'
+}
+
+fn comment(rest: &[u8]) -> What
+    ensures value { result ≡ lexing.comment rest.now (utf8_valid_len rest.now) }
+    ensures within { lexing.Within rest.now result }
+{
+    let n = text_len(rest);
+    if n == rest.len() {
+        What::Over
+    } else {
+        What::Bad(n)
+    }
+}
+
+/// What begins where the rest of the line begins.
+#[tactic(auto, unfolding(crate::specs::Lexing::starts))]
+pub(crate) fn starts(rest: &[u8]) -> What
+    ensures value { result ≡ lexing.starts rest.now }
+    ensures within { lexing.Within rest.now result }
+{
+    if rest.is_empty() {
+        return What::Over;
+    }
+    let b = byte_at(rest, 0);
+    if is_blank(b) {
+        return What::Gap;
+    }
+    if b == b'#' {
+        return comment(rest);
+    }
+    token_at(rest, b)
+}

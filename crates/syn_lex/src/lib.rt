@@ -1,0 +1,14 @@
+//! Lines and tokens: a file is cut into lines by their places, and a line into tokens. Everything a
+//! token is hangs on one function that says what begins at a place, so the answer for a line is one
+//! alone: its tokens, or the first byte that begins nothing.
+#![tactic(auto)]
+
+mod begins;
+mod lexer;
+mod lines;
+mod token;
+mod words;
+
+pub use lexer::tokens;
+pub use lines::{FileError, Line, split_lines};
+pub use token::{LexError, Token, TokenKind};
