@@ -33,10 +33,9 @@ word_len (c ∷ cs) = cond (is_xid_start c) (run_len (c ∷ cs)) 0
 abbrev pub front_chars : List ℕ → List ℕ
 front_chars bytes = chars (take (utf8_valid_len bytes) bytes)
 
--- The length of the name that begins here, a reserved word or not. A name has at most 64 bytes, so 68 bytes tell how
--- long it is or that it is too long: 64 and one character more.
+-- The length of the name that begins here, a reserved word or not. A longer run than 64 bytes is none.
 unfoldable pub name_len : List ℕ → ℕ
-name_len rest = at_most 64 (word_len (front_chars (take 68 rest)))
+name_len rest = at_most 64 (word_len (front_chars rest))
 
 -- The word is one of those that no symbol may have as its name.
 abbrev pub is_reserved : List ℕ → Bool
