@@ -4,7 +4,8 @@
 //! outside.
 #![tactic(auto)]
 
-ghost use Rattle.std.specs.Prelude.{◌≡◌};
+ghost use Rattle.std.specs.Prelude.{◌≡◌, Err};
+ghost use Rattle.syn_app.specs.declared.status.Status.{Status};
 ghost use Rattle.std.specs.Process.{exit_status};
 ghost use Rattle.syn_app.specs.Status.{status_number};
 
@@ -26,7 +27,14 @@ fn main(rt: HostRuntime) -> ExitCode {
 
 /// Does what the process's words ask, on the real files and the real output.
 fn run<R: AllocGlobal + Env + Files + Print>(rt: &R) -> Status {
-    match words_of(rt) {
+    answer_to(rt, words_of(rt))
+}
+
+/// The answer of the top call to the words, or the status that there is in their place.
+fn answer_to<R: AllocGlobal + Files + Print>(rt: &R, words: Result<Vec<String>, Status>) -> Status
+    ensures { (status : Status) → words ≡ Err status → result ≡ status }
+{
+    match words {
         Ok(words) => synth(
             rt.alloc(),
             words.as_slice(),

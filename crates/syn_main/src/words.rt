@@ -14,9 +14,17 @@ pub fn words_of<R: AllocGlobal + Env>(rt: &R) -> Result<Vec<String>, Status>
     ensures { OnErr result ((result ≡ Err Status.Words) ⊎ (result ≡ Err Status.NoMemory)) }
 {
     match env::args(rt) {
-        Ok(args) => listed(rt.alloc(), after_name(args)),
+        Ok(args) => words_in(rt.alloc(), args),
         Err(error) => Err(refusal(error.kind())),
     }
+}
+
+/// The words among the arguments.
+fn words_in(alloc: Global, args: Args) -> Result<Vec<String>, Status>
+    ensures words { IfOk result (λ list. list.items ≡ drop 1 args.rest.items) }
+    ensures err { OnErr result (result ≡ Err Status.NoMemory) }
+{
+    listed(alloc, after_name(args))
 }
 
 /// The arguments after the first, which is the program's name.

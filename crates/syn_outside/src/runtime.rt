@@ -1,7 +1,7 @@
 // The real outside: the files of the current folder and standard output, each call one read or one
 // write of the runtime. What they hold is not told, so the clauses are those on counts; that the
 // runtime reads and writes what it says is trusted.
-ghost use Rattle.std.specs.Prelude.{◌≡◌, ℕ, ◌<◌, ◌≤◌, Option, None, Err, IfOk, OnOk, OnErr, length};
+ghost use Rattle.std.specs.Prelude.{◌≡◌, ℕ, ◌<◌, ◌≤◌, Option, None, Ok, Err, IfOk, OnOk, OnErr, MatchOption, length};
 ghost use Rattle.syn_outside.specs.Faults.{Faults, Rose, HasCause, raised};
 ghost use Rattle.syn_outside.specs.Files.{File, Told, Gives, Reads, MayBegin, Writes, WritesSome};
 ghost use Rattle.syn_outside.specs.Texts.{Adds, PutsSome};
@@ -155,13 +155,27 @@ impl<'a, R: Print> Sink for StdSink<'a, R> {
         ensures failed { OnErr result (result ≡ Err Trouble.Failed) }
         ensures counts { OnErr result (self.new ≡ raised self.old) }
     {
-        match self.rt.write_some(piece) {
-            Ok(k) if k > 0 || piece.is_empty() => Ok(k),
-            // A write that moves nothing would be tried again without end.
-            _ => {
+        match count_of(self.rt.write_some(piece), piece.len()) {
+            Some(k) => Ok(k),
+            None => {
                 self.faults = self.faults.saturating_add(1);
                 Err(Trouble::Failed)
             }
         }
+    }
+}
+
+/// How many of `len` bytes a write moved. None where it failed, or moved nothing though there was
+/// something to move: such a write would be tried again without end.
+fn count_of(answer: io::Result<usize>, len: usize) -> Option<usize>
+    ensures {
+        MatchOption result
+            ((k : ℕ) → answer ≡ Ok k → (k ≡ 0) × (0 < len))
+            (λ k. (answer ≡ Ok k) × (0 < len → 0 < k))
+    }
+{
+    match answer {
+        Ok(k) if k > 0 || len == 0 => Some(k),
+        _ => None,
     }
 }

@@ -51,6 +51,7 @@ impl Bank {
 
     /// The place of the next node.
     fn place(&mut self) -> Place
+        ensures number { result.number ≡ self.old.made }
         ensures made { self.new ≡ one_more self.old }
         ensures extends { Extends self.old self.new }
     {
