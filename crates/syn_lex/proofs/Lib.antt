@@ -1,4 +1,5 @@
 pub mod LineSteps
+pub mod OneSplit
 pub mod Runs
 pub mod Window
 pub mod TokenSteps

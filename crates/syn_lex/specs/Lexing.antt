@@ -2,7 +2,7 @@
 -- which byte is the first that begins nothing.
 use Rattle.std.specs.Prelude.{◌≡◌, ℕ, ◌+◌, ◌-◌, ◌<◌, ◌≤◌, Bool, cond, ◌&&◌, ◌||◌, List, [], ◌∷◌, codes, length, get_or, take, drop, nat_eq, nat_lt}
 use Rattle.std.specs.Char.{encode_utf8, is_ascii_digit}
-use Rattle.std.specs.Str.{chars, bytes_eq}
+use Rattle.std.specs.Str.{byte, chars, bytes_eq}
 use Rattle.std.specs.Str.Lossy.{utf8_valid_len}
 use Rattle.std.specs.List.{prefix_len, list_any}
 use Rattle.unicode_ident.specs.Ident.{is_xid_start, is_xid_continue}
@@ -49,25 +49,25 @@ free_name_len rest = cond (is_reserved (take (name_len rest) rest)) 0 (name_len 
 unfoldable pub tag_len : List ℕ → ℕ
 tag_len rest = cond (bytes_eq (take (name_len rest) rest) (codes "goal") || bytes_eq (take (name_len rest) rest) (codes "induct")) (name_len rest) (free_name_len rest)
 
--- The digits at the front.
+-- How many ASCII digits stand at the front.
 abbrev pub digits : List ℕ → ℕ
 digits = prefix_len is_ascii_digit
 
 -- The number that begins here: all the digits, at most seven, without a zero before others.
 unfoldable pub number_len : List ℕ → ℕ
-number_len rest = cond (nat_eq (get_or rest 0 0) 48 && nat_lt 1 (digits rest)) 0 (at_most 7 (digits rest))
+number_len rest = cond (nat_eq (get_or rest 0 0) (byte "0") && nat_lt 1 (digits rest)) 0 (at_most 7 (digits rest))
 
 -- The number from 1 that begins here.
 unfoldable pub counted_len : List ℕ → ℕ
-counted_len rest = cond (nat_eq (get_or rest 0 0) 48) 0 (at_most 7 (digits rest))
+counted_len rest = cond (nat_eq (get_or rest 0 0) (byte "0")) 0 (at_most 7 (digits rest))
 
--- The first length and the second together, where there is a second.
+-- Both lengths together, where what comes second begins at all.
 abbrev pub joined : ℕ → ℕ → ℕ
 joined before n = cond (nat_eq n 0) 0 (before + n)
 
 -- A colon and a name that is no reserved word, where they follow.
 unfoldable pub sort_len : List ℕ → ℕ
-sort_len rest = cond (nat_eq (get_or rest 0 0) 58) (joined 1 (free_name_len (drop 1 rest))) 0
+sort_len rest = cond (nat_eq (get_or rest 0 0) (byte ":")) (joined 1 (free_name_len (drop 1 rest))) 0
 
 -- A row variable, from its question mark on: a number from 1 follows, and then its sort, where one is written.
 unfoldable pub row_len : List ℕ → ℕ
@@ -75,9 +75,9 @@ row_len rest = joined (1 + sort_len (drop (1 + counted_len (drop 1 rest)) rest))
 
 -- The full stop and the number from 1 that end a Skolem symbol.
 unfoldable pub stop_len : List ℕ → ℕ
-stop_len rest = cond (nat_eq (get_or rest 0 0) 46) (joined 1 (counted_len (drop 1 rest))) 0
+stop_len rest = cond (nat_eq (get_or rest 0 0) (byte ".")) (joined 1 (counted_len (drop 1 rest))) 0
 
--- What is left of a Skolem symbol behind its mark and a tag of n bytes, with these.
+-- The length of a Skolem symbol whose tag has n bytes.
 abbrev pub tagged : ℕ → List ℕ → ℕ
 tagged n rest = cond (nat_eq n 0) 0 (joined (1 + n) (stop_len (drop (1 + n) rest)))
 
@@ -91,7 +91,7 @@ is_single_sign b = list_any (λ sign. nat_eq sign b) (codes "(),:.|=")
 
 -- The longest sign that begins with these three bytes.
 abbrev pub sign_of : ℕ → ℕ → ℕ → ℕ
-sign_of b c d = cond (is_single_sign b) 1 (cond (nat_eq b 45) (cond (nat_eq c 62) 2 1) (cond (nat_eq b 60 && (nat_eq c 45 && nat_eq d 62)) 3 0))
+sign_of b c d = cond (is_single_sign b) 1 (cond (nat_eq b (byte "-")) (cond (nat_eq c (byte ">")) 2 1) (cond (nat_eq b (byte "<") && (nat_eq c (byte "-") && nat_eq d (byte ">"))) 3 0))
 
 -- The sign that begins here; past the end of the line a byte counts as 0.
 unfoldable pub sign_len : List ℕ → ℕ
@@ -105,8 +105,8 @@ token k n = cond (nat_eq n 0) (what.Bad 0) (what.Token k n)
 unfoldable pub token_at : List ℕ → ℕ → What
 token_at rest b =
     cond (is_ascii_digit b) (token kind.Number (number_len rest))
-    (cond (nat_eq b 63) (token kind.RowVar (row_len rest))
-    (cond (nat_eq b 33) (token kind.Skolem (skolem_len rest))
+    (cond (nat_eq b (byte "?")) (token kind.RowVar (row_len rest))
+    (cond (nat_eq b (byte "!")) (token kind.Skolem (skolem_len rest))
     (cond (nat_eq (sign_len rest) 0) (token kind.Name (name_len rest)) (what.Token kind.Sign (sign_len rest)))))
 
 -- Space, tab and carriage return.
@@ -124,7 +124,7 @@ unfoldable pub starts : List ℕ → What
 starts rest =
     cond (nat_eq (length rest) 0) what.Over
     (cond (is_blank (get_or rest 0 0)) what.Gap
-    (cond (nat_eq (get_or rest 0 0) 35) (comment rest (utf8_valid_len rest))
+    (cond (nat_eq (get_or rest 0 0) (byte "#")) (comment rest (utf8_valid_len rest))
     (token_at rest (get_or rest 0 0))))
 
 -- All places from here to before the end are blanks.

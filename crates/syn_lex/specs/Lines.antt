@@ -15,3 +15,7 @@ pub record IsLine (bytes : List ℕ) (line : Line) : Type 0 where
 abbrev pub Lines : List ℕ → ℕ → List Line → Type 0
 Lines bytes at [] = at ≡ length bytes
 Lines bytes at (line ∷ lines) = (line.from ≡ at) × IsLine bytes line × Lines bytes (line.to + cond line.ended 1 0) lines
+
+-- A file has one list of lines at most.
+abbrev pub OneSplit : List ℕ → Type 0
+OneSplit bytes = (lines others : List Line) → Lines bytes 0 lines → Lines bytes 0 others → lines ≡ others

@@ -1,7 +1,7 @@
 // A file as lines. The bytes are gone through once, and each line feed closes the line that began
 // behind the one before; what is left behind the last is a line without an end.
 ghost use Rattle.std.specs.Prelude.{◌≡◌, ◌++◌, ◌∷◌, [], false, cond, nat_lt, IfOk, OnOk};
-ghost use Rattle.syn_lex.specs.Lines.{Lines};
+ghost use Rattle.syn_lex.specs.Lines.{Lines, OneSplit};
 
 use std::alloc::Global;
 use syn_term::NoMemory;
@@ -50,10 +50,7 @@ fn push_last(lines: &mut Vec<Line>, from: u64, to: u64) -> Result<(), NoMemory>
     }
 }
 
-/// Cuts a file into its lines, in order. A line feed ends a line; bytes after the last line feed
-/// are a further line, which isn't `ended`; a file without bytes has no line. It takes 24 bytes of
-/// memory a line, and `NoMemory` is the one error.
-pub fn split_lines(alloc: Global, bytes: &[u8]) -> Result<Vec<Line>, NoMemory>
+fn scan_lines(alloc: Global, bytes: &[u8]) -> Result<Vec<Line>, NoMemory>
     ensures { IfOk result (λ lines. Lines bytes.now 0 lines.items) }
 {
     let mut lines = Vec::new(alloc);
@@ -74,6 +71,16 @@ pub fn split_lines(alloc: Global, bytes: &[u8]) -> Result<Vec<Line>, NoMemory>
     }
     push_last(&mut lines, from as u64, bytes.len() as u64)?;
     Ok(lines)
+}
+
+/// Cuts a file into its lines, in order. A line feed ends a line; bytes after the last line feed
+/// are a further line, which isn't `ended`; a file without bytes has no line. It takes 24 bytes of
+/// memory a line, and `NoMemory` is the one error.
+pub fn split_lines(alloc: Global, bytes: &[u8]) -> Result<Vec<Line>, NoMemory>
+    ensures lines { IfOk result (λ lines. Lines bytes.now 0 lines.items) }
+    ensures one { OneSplit bytes.now }
+{
+    scan_lines(alloc, bytes)
 }
 
 #[cfg(test)]

@@ -1,6 +1,5 @@
-use Rattle.std.proofs.Common.{arith}
-use Rattle.syn_lex.proofs.LineSteps.{lines_at_end}
+use Rattle.syn_lex.proofs.OneSplit.{one_split}
 use Rattle.syn_lex.proofs.lines.split_lines.Goals as goal
 
-pub returns : goal.returns
-returns c = lines_at_end c.args.bytes.now c.loop-i.lines.items c.push_last.new.lines.items c.loop-i.from c.loop-i.i (omega arith) c.loop-i.invariant.1 c.in_ok-push_last.ensures
+pub returns-clause-one : goal.returns-clause-one
+returns-clause-one c = one_split c.args.bytes.now
