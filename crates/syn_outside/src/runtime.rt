@@ -168,11 +168,7 @@ impl<'a, R: Print> Sink for StdSink<'a, R> {
 /// How many of `len` bytes a write moved. None where it failed, or moved nothing though there was
 /// something to move: such a write would be tried again without end.
 fn count_of(answer: io::Result<usize>, len: usize) -> Option<usize>
-    ensures {
-        MatchOption result
-            ((k : ℕ) → answer ≡ Ok k → (k ≡ 0) × (0 < len))
-            (λ k. (answer ≡ Ok k) × (0 < len → 0 < k))
-    }
+    ensures { MatchOption result ((k : ℕ) → answer ≡ Ok k → (k ≡ 0) × (0 < len)) (λ k. (answer ≡ Ok k) × (0 < len → 0 < k)) }
 {
     match answer {
         Ok(k) if k > 0 || len == 0 => Some(k),
