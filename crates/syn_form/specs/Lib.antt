@@ -5,3 +5,5 @@ pub mod Plain
 pub mod Substitutions
 pub mod Simplification
 pub mod Truth
+pub mod Scopes
+pub mod Printing
