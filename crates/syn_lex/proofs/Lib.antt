@@ -1,3 +1,4 @@
+pub mod OnePlace
 pub mod LineSteps
 pub mod OneSplit
 pub mod Runs

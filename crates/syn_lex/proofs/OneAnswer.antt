@@ -1,78 +1,76 @@
 -- A line has one answer at most. Two places that are reached over blanks and where no blank begins are one place; so two
 -- lists of tokens agree from the front on, and with them the places where they end.
 use Rattle.std.proofs.Common.{◌≡◌, ℕ, ◌+◌, ◌-◌, ◌<◌, ◌≤◌, List, [], ◌∷◌, drop, refl, sym, ◌∙◌, ap, subst, arith}
-use Rattle.syn_lex.specs.declared.token.TokenKind.{TokenKind}
+use Rattle.syn_term.specs.declared.tokens.TokenKind.{TokenKind}
 use Rattle.syn_lex.specs.declared.token.Token.{Token}
-use Rattle.syn_lex.specs.declared.token.What.TheVariants as what
-use Rattle.syn_lex.specs.Lexing.{starts, Blank, Spans, Lexed, Stuck, OneAnswer}
+use Rattle.syn_term.specs.Tokens.{gap, over, bad, token, starts}
+use Rattle.syn_lex.specs.Lexing.{Blank, Spans, Lexed, Stuck, OneAnswer}
+use Rattle.syn_lex.proofs.OnePlace.{one_place}
 
-gap_token : (k : TokenKind) (n : ℕ) → what.Gap ≡ what.Token k n → ⊥
+gap_token : (k : TokenKind) (n : ℕ) → gap ≡ token k n → ⊥
 gap_token k n e = cc
 
-over_token : (k : TokenKind) (n : ℕ) → what.Over ≡ what.Token k n → ⊥
+over_token : (k : TokenKind) (n : ℕ) → over ≡ token k n → ⊥
 over_token k n e = cc
 
-bad_token : (k : TokenKind) (m n : ℕ) → what.Bad m ≡ what.Token k n → ⊥
+bad_token : (k : TokenKind) (m n : ℕ) → bad m ≡ token k n → ⊥
 bad_token k m n e = cc
 
-over_gap : what.Over ≡ what.Gap → ⊥
+over_gap : over ≡ gap → ⊥
 over_gap e = cc
 
-bad_gap : (m : ℕ) → what.Bad m ≡ what.Gap → ⊥
+bad_gap : (m : ℕ) → bad m ≡ gap → ⊥
 bad_gap m e = cc
 
-over_bad : (m : ℕ) → what.Over ≡ what.Bad m → ⊥
+over_bad : (m : ℕ) → over ≡ bad m → ⊥
 over_bad m e = cc
 
-bad_same : (m n : ℕ) → what.Bad m ≡ what.Bad n → m ≡ n
+bad_same : (m n : ℕ) → bad m ≡ bad n → m ≡ n
 bad_same m n e = cc
 
-token_kind : (k j : TokenKind) (m n : ℕ) → what.Token k m ≡ what.Token j n → k ≡ j
+token_kind : (k j : TokenKind) (m n : ℕ) → token k m ≡ token j n → k ≡ j
 token_kind k j m n e = cc
 
-token_length : (k j : TokenKind) (m n : ℕ) → what.Token k m ≡ what.Token j n → m ≡ n
+token_length : (k j : TokenKind) (m n : ℕ) → token k m ≡ token j n → m ≡ n
 token_length k j m n e = cc
 
 abbrev NoGap : List ℕ → ℕ → Type 0
-NoGap line p = starts (drop p line) ≡ what.Gap → ⊥
+NoGap line p = starts (drop p line) ≡ gap → ⊥
 
 -- neither a blank nor a token begins there
 record Ends (line : List ℕ) (p : ℕ) : Type 0 where
   gap : NoGap line p
-  token : (k : TokenKind) (n : ℕ) → starts (drop p line) ≡ what.Token k n → ⊥
+  token : (k : TokenKind) (n : ℕ) → starts (drop p line) ≡ token k n → ⊥
 
 least : (line : List ℕ) (at p q : ℕ) → at ≤ p → Blank line at q → NoGap line p → p < q → ⊥
 least line at p q le blank none lt = none (blank p le lt)
 
-one_place : (p q : ℕ) → (p < q → ⊥) → (q < p → ⊥) → p ≡ q
-one_place p q m n = grind arith
-
 same_place : (line : List ℕ) (at p q : ℕ) → at ≤ p → at ≤ q → Blank line at p → Blank line at q → NoGap line p → NoGap line q → p ≡ q
 same_place line at p q lp lq bp bq np nq = one_place p q (least line at p q lp bq np) (least line at q p lq bp nq)
 
-token_no_gap : (line : List ℕ) (p : ℕ) (k : TokenKind) (n : ℕ) → starts (drop p line) ≡ what.Token k n → NoGap line p
+token_no_gap : (line : List ℕ) (p : ℕ) (k : TokenKind) (n : ℕ) → starts (drop p line) ≡ token k n → NoGap line p
 token_no_gap line p k n e g = gap_token k n (sym g ∙ e)
 
-over_ends : (line : List ℕ) (p : ℕ) → starts (drop p line) ≡ what.Over → Ends line p
+over_ends : (line : List ℕ) (p : ℕ) → starts (drop p line) ≡ over → Ends line p
 over_ends line p e = record { gap = λ g. over_gap (sym e ∙ g); token = λ k n t. over_token k n (sym e ∙ t) }
 
-bad_ends : (line : List ℕ) (p m : ℕ) → starts (drop p line) ≡ what.Bad m → Ends line p
+bad_ends : (line : List ℕ) (p m : ℕ) → starts (drop p line) ≡ bad m → Ends line p
 bad_ends line p m e = record { gap = λ g. bad_gap m (sym e ∙ g); token = λ k n t. bad_token k m n (sym e ∙ t) }
 
-ends_at_token : (line : List ℕ) (at p q : ℕ) (k : TokenKind) (n : ℕ) → at ≤ p → at ≤ q → Blank line at p → Blank line at q → Ends line p → starts (drop q line) ≡ what.Token k n → ⊥
+ends_at_token : (line : List ℕ) (at p q : ℕ) (k : TokenKind) (n : ℕ) → at ≤ p → at ≤ q → Blank line at p → Blank line at q → Ends line p → starts (drop q line) ≡ token k n → ⊥
 ends_at_token line at p q k n lp lq bp bq ends e =
     let same : q ≡ p = sym (same_place line at p q lp lq bp bq ends.gap (token_no_gap line q k n e)) in
-    ends.token k n (subst (λ (z : ℕ). starts (drop z line) ≡ what.Token k n) same e)
+    ends.token k n (subst (λ (z : ℕ). starts (drop z line) ≡ token k n) same e)
 
 token_parts : (t u : Token) → t.kind ≡ u.kind → t.from ≡ u.from → t.to ≡ u.to → t ≡ u
 token_parts t u kind from to =
     ap (λ (z : TokenKind). record { kind = z; from = t.from; to = t.to }) kind
     ∙ (ap (λ (z : ℕ). record { kind = u.kind; from = z; to = t.to }) from ∙ ap (λ (z : ℕ). record { kind = u.kind; from = u.from; to = z }) to)
 
-same_token : (line : List ℕ) (at : ℕ) (t u : Token) → at ≤ t.from → at ≤ u.from → Blank line at t.from → Blank line at u.from → starts (drop t.from line) ≡ what.Token t.kind (t.to - t.from) → starts (drop u.from line) ≡ what.Token u.kind (u.to - u.from) → t.from < t.to → u.from < u.to → t ≡ u
+same_token : (line : List ℕ) (at : ℕ) (t u : Token) → at ≤ t.from → at ≤ u.from → Blank line at t.from → Blank line at u.from → starts (drop t.from line) ≡ token t.kind (t.to - t.from) → starts (drop u.from line) ≡ token u.kind (u.to - u.from) → t.from < t.to → u.from < u.to → t ≡ u
 same_token line at t u lt lu bt bu et eu st su =
     let from : t.from ≡ u.from = same_place line at t.from u.from lt lu bt bu (token_no_gap line t.from t.kind (t.to - t.from) et) (token_no_gap line u.from u.kind (u.to - u.from) eu) in
-    let both : what.Token t.kind (t.to - t.from) ≡ what.Token u.kind (u.to - u.from) = sym et ∙ (ap (λ (z : ℕ). starts (drop z line)) from ∙ eu) in
+    let both : token t.kind (t.to - t.from) ≡ token u.kind (u.to - u.from) = sym et ∙ (ap (λ (z : ℕ). starts (drop z line)) from ∙ eu) in
     let kind : t.kind ≡ u.kind = token_kind t.kind u.kind (t.to - t.from) (u.to - u.from) both in
     let size : t.to - t.from ≡ u.to - u.from = token_length t.kind u.kind (t.to - t.from) (u.to - u.from) both in
     let to : t.to ≡ u.to = omega arith in

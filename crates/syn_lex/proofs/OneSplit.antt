@@ -3,6 +3,7 @@
 use Rattle.std.proofs.Common.{◌≡◌, ℕ, ◌+◌, ◌<◌, ◌≤◌, Bool, true, false, List, [], ◌∷◌, cond, length, get_or, refl, sym, ◌∙◌, ap, subst, arith, MatchBool}
 use Rattle.syn_lex.specs.declared.lines.Line.{Line}
 use Rattle.syn_lex.specs.Lines.{IsLine, Lines, OneSplit}
+use Rattle.syn_lex.proofs.OnePlace.{one_place}
 
 -- what ends a line, whichever way
 abbrev Ends : List ℕ → ℕ → ℕ → Bool → Type 0
@@ -26,9 +27,6 @@ same_end bytes from to true true h k = refl
 same_end bytes from to false false h k = refl
 same_end bytes from to true false h k = absurd (omega (arith, h.0, k.1))
 same_end bytes from to false true h k = absurd (omega (arith, h.1, k.0))
-
-one_place : (p q : ℕ) → (p < q → ⊥) → (q < p → ⊥) → p ≡ q
-one_place p q m n = grind arith
 
 line_parts : (l m : Line) → l.from ≡ m.from → l.to ≡ m.to → l.ended ≡ m.ended → l ≡ m
 line_parts l m from to ended =

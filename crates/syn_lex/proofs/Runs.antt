@@ -4,7 +4,7 @@ use Rattle.std.specs.Char.{encode_utf8}
 use Rattle.std.proofs.lemmas.Str.{chars_past_char, chars-nil}
 use Rattle.std.proofs.lemmas.List.{length-append}
 use Rattle.unicode_ident.specs.Ident.{is_xid_continue}
-use Rattle.syn_lex.specs.Lexing.{run_len}
+use Rattle.syn_term.specs.Tokens.{run_len}
 
 -- a character that continues the name adds its bytes
 pub run_more : (bs rest : List ℕ) (c : ℕ) → IsUtf8 bs → bs ≡ encode_utf8 c ++ rest → is_xid_continue c ≡ true → run_len (chars bs) ≡ length (encode_utf8 c) + run_len (chars rest)

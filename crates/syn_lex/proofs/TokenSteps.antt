@@ -2,16 +2,16 @@
 use Rattle.std.proofs.Common.{◌≡◌, ℕ, ◌+◌, ◌-◌, ◌<◌, ◌≤◌, List, [], ◌∷◌, ◌++◌, length, drop, ◌∙◌, ap, subst, arith, ⊎_elim}
 use Rattle.std.proofs.lemmas.Bool.{cases_lt}
 use Rattle.std.proofs.lemmas.List.{drop_all, length-drop}
-use Rattle.syn_lex.specs.declared.token.TokenKind.{TokenKind}
+use Rattle.syn_term.specs.declared.tokens.TokenKind.{TokenKind}
 use Rattle.syn_lex.specs.declared.token.Token.{Token}
-use Rattle.syn_lex.specs.declared.token.What.TheVariants as what
-use Rattle.syn_lex.specs.Lexing.{starts, Blank, Spans}
+use Rattle.syn_term.specs.Tokens.{gap, over, token, starts}
+use Rattle.syn_lex.specs.Lexing.{Blank, Spans}
 
-blank_more : (line : List ℕ) (at end : ℕ) → Blank line at end → starts (drop end line) ≡ what.Gap → Blank line at (end + 1)
+blank_more : (line : List ℕ) (at end : ℕ) → Blank line at end → starts (drop end line) ≡ gap → Blank line at (end + 1)
 blank_more line at end h g q lo hi =
-    ⊎_elim (λ lt. h q lo lt) (λ ge. let e : end ≡ q = omega arith in subst (λ (z : ℕ). starts (drop z line) ≡ what.Gap) e g) (cases_lt q end)
+    ⊎_elim (λ lt. h q lo lt) (λ ge. let e : end ≡ q = omega arith in subst (λ (z : ℕ). starts (drop z line) ≡ gap) e g) (cases_lt q end)
 
-pub spans_blank : (line : List ℕ) (at : ℕ) (ts : List Token) (end : ℕ) → Spans line at ts end → starts (drop end line) ≡ what.Gap → Spans line at ts (end + 1)
+pub spans_blank : (line : List ℕ) (at : ℕ) (ts : List Token) (end : ℕ) → Spans line at ts end → starts (drop end line) ≡ gap → Spans line at ts (end + 1)
 spans_blank line at [] end s g = (omega (arith, s.0), blank_more line at end s.1 g)
 spans_blank line at (t ∷ ts) end s g = (s.0, s.1, s.2, s.3, spans_blank line t.to ts end s.4 g)
 
@@ -21,14 +21,14 @@ blank_none line at q lo hi = absurd (omega arith)
 pub spans_none : (line : List ℕ) → Spans line 0 [] 0
 spans_none line = (omega arith, blank_none line 0)
 
-pub spans_token : (line : List ℕ) (at : ℕ) (ts : List Token) (end n : ℕ) (k : TokenKind) → Spans line at ts end → starts (drop end line) ≡ what.Token k n → 0 < n → Spans line at (ts ++ record { kind = k; from = end; to = end + n } ∷ []) (end + n)
+pub spans_token : (line : List ℕ) (at : ℕ) (ts : List Token) (end n : ℕ) (k : TokenKind) → Spans line at ts end → starts (drop end line) ≡ token k n → 0 < n → Spans line at (ts ++ record { kind = k; from = end; to = end + n } ∷ []) (end + n)
 spans_token line at [] end n k s e some =
     let m : n ≡ (end + n) - end = omega arith in
-    (s.0, s.1, e ∙ ap (what.Token k) m, omega arith, (omega arith, blank_none line (end + n)))
+    (s.0, s.1, e ∙ ap (token k) m, omega arith, (omega arith, blank_none line (end + n)))
 spans_token line at (t ∷ ts) end n k s e some = (s.0, s.1, s.2, s.3, spans_token line t.to ts end n k s.4 e some)
 
 -- where the line is at its end, nothing more begins
-pub starts_none : (line : List ℕ) (at : ℕ) → length line ≤ at → starts (drop at line) ≡ what.Over
+pub starts_none : (line : List ℕ) (at : ℕ) → length line ≤ at → starts (drop at line) ≡ over
 unfolding starts
 starts_none line at h = ap starts (drop_all at line h)
 

@@ -2,17 +2,19 @@
 // each kind tells its length; 0 says that none begins.
 ghost use Rattle.std.specs.Prelude.{◌≡◌, ◌≤◌, ◌<◌, length};
 ghost use Rattle.std.specs.Str.Lossy.{utf8_valid_len};
-ghost use Rattle.syn_lex.specs.Lexing as lexing;
+ghost use Rattle.syn_term.specs.Tokens as tokens;
+ghost use Rattle.syn_lex.specs.Lexing.{seen, Within};
 
-use crate::token::{TokenKind, What};
+use crate::token::What;
 use crate::words::{
     after, byte_at, counted_len, name_len, number_len, sort_len, stop_len, tag_len, text_len,
 };
+use syn_term::TokenKind;
 
-#[tactic(auto, unfolding(crate::specs::Lexing::row_len))]
+#[tactic(auto, unfolding(syn_term::specs::Tokens::row_len))]
 fn row_len(rest: &[u8]) -> usize
     requires { 0 < length rest.now }
-    ensures value { result ≡ lexing.row_len rest.now }
+    ensures value { result ≡ tokens.row_len rest.now }
     ensures within { result ≤ length rest.now }
 {
     let n = counted_len(after(rest, 1));
@@ -23,10 +25,10 @@ fn row_len(rest: &[u8]) -> usize
     }
 }
 
-#[tactic(auto, unfolding(crate::specs::Lexing::skolem_len))]
+#[tactic(auto, unfolding(syn_term::specs::Tokens::skolem_len))]
 fn skolem_len(rest: &[u8]) -> usize
     requires { 0 < length rest.now }
-    ensures value { result ≡ lexing.skolem_len rest.now }
+    ensures value { result ≡ tokens.skolem_len rest.now }
     ensures within { result ≤ length rest.now }
 {
     let n = tag_len(after(rest, 1));
@@ -38,13 +40,13 @@ fn skolem_len(rest: &[u8]) -> usize
 }
 
 fn is_single_sign(b: u8) -> bool
-    ensures { result ≡ lexing.is_single_sign b }
+    ensures { result ≡ tokens.is_single_sign b }
 {
     b"(),:.|=".contains(&b)
 }
 
 fn sign_of(b: u8, c: u8, d: u8) -> usize
-    ensures { result ≡ lexing.sign_of b c d }
+    ensures { result ≡ tokens.sign_of b c d }
 {
     if is_single_sign(b) {
         1
@@ -57,16 +59,16 @@ fn sign_of(b: u8, c: u8, d: u8) -> usize
     }
 }
 
-#[tactic(auto, unfolding(crate::specs::Lexing::sign_len))]
+#[tactic(auto, unfolding(syn_term::specs::Tokens::sign_len))]
 fn sign_len(rest: &[u8]) -> usize
-    ensures value { result ≡ lexing.sign_len rest.now }
+    ensures value { result ≡ tokens.sign_len rest.now }
     ensures within { result ≤ length rest.now }
 {
     sign_of(byte_at(rest, 0), byte_at(rest, 1), byte_at(rest, 2))
 }
 
 fn token(kind: TokenKind, n: usize) -> What
-    ensures { result ≡ lexing.token kind n }
+    ensures { seen result ≡ tokens.some_token kind n }
 {
     if n == 0 {
         What::Bad(0)
@@ -75,11 +77,11 @@ fn token(kind: TokenKind, n: usize) -> What
     }
 }
 
-#[tactic(auto, unfolding(crate::specs::Lexing::token_at))]
+#[tactic(auto, unfolding(syn_term::specs::Tokens::token_at))]
 fn token_at(rest: &[u8], b: u8) -> What
     requires { 0 < length rest.now }
-    ensures value { result ≡ lexing.token_at rest.now b }
-    ensures within { lexing.Within rest.now result }
+    ensures value { seen result ≡ tokens.token_at rest.now b }
+    ensures within { Within rest.now (seen result) }
 {
     if b.is_ascii_digit() {
         return token(TokenKind::Number, number_len(rest));
@@ -98,14 +100,14 @@ fn token_at(rest: &[u8], b: u8) -> What
 }
 
 fn is_blank(b: u8) -> bool
-    ensures { result ≡ lexing.is_blank b }
+    ensures { result ≡ tokens.is_blank b }
 {
     b == b' ' || b == b'\t' || b == b'\r'
 }
 
 fn comment(rest: &[u8]) -> What
-    ensures value { result ≡ lexing.comment rest.now (utf8_valid_len rest.now) }
-    ensures within { lexing.Within rest.now result }
+    ensures value { seen result ≡ tokens.comment rest.now (utf8_valid_len rest.now) }
+    ensures within { Within rest.now (seen result) }
 {
     let n = text_len(rest);
     if n == rest.len() {
@@ -116,10 +118,10 @@ fn comment(rest: &[u8]) -> What
 }
 
 /// What begins where the rest of the line begins.
-#[tactic(auto, unfolding(crate::specs::Lexing::starts))]
+#[tactic(auto, unfolding(syn_term::specs::Tokens::starts))]
 pub(crate) fn starts(rest: &[u8]) -> What
-    ensures value { result ≡ lexing.starts rest.now }
-    ensures within { lexing.Within rest.now result }
+    ensures value { seen result ≡ tokens.starts rest.now }
+    ensures within { Within rest.now (seen result) }
 {
     if rest.is_empty() {
         return What::Over;

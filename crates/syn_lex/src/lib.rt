@@ -11,4 +11,5 @@ mod words;
 
 pub use lexer::tokens;
 pub use lines::{FileError, Line, split_lines};
-pub use token::{LexError, Token, TokenKind};
+pub use syn_term::TokenKind;
+pub use token::{LexError, Token};

@@ -1,20 +1,7 @@
 // The tokens of a line, and what may begin at a place of it. The kind of a token is told by its
 // first byte, so a length is all that is left to find.
 
-/// What a token is.
-#[derive(Clone, Copy, Debug, PartialEq, Eq)]
-pub enum TokenKind {
-    /// A name of at most 64 bytes, or a reserved word.
-    Name,
-    /// A number of at most seven digits, without a zero before others.
-    Number,
-    /// `?` and a number from 1, and its sort behind a colon, where one follows: `?1:list`.
-    RowVar,
-    /// `!`, a tag, `.` and a number from 1: `!gap.1`.
-    Skolem,
-    /// One of `( ) , : . | = - -> <->`.
-    Sign,
-}
+use syn_term::TokenKind;
 
 /// A token: its kind, and the places of its bytes in the line, from the first to behind the last.
 #[derive(Clone, Copy, Debug, PartialEq, Eq)]

@@ -5,7 +5,7 @@ ghost use Rattle.std.specs.Char.{is_ascii_digit};
 ghost use Rattle.std.specs.Str.{bytes_eq, chars, IsUtf8};
 ghost use Rattle.std.specs.Str.Lossy.{utf8_valid_len};
 ghost use Rattle.std.specs.List.{prefix_len};
-ghost use Rattle.syn_lex.specs.Lexing as lexing;
+ghost use Rattle.syn_term.specs.Tokens as tokens;
 
 use unicode_ident::{is_xid_continue, is_xid_start};
 
@@ -15,11 +15,6 @@ const MAX_NAME_BYTES: usize = 64;
 const NAME_WINDOW: usize = 68;
 
 const MAX_DIGITS: usize = 7;
-
-const RESERVED: [&[u8]; 15] = [
-    b"nat", b"s", b"true", b"false", b"not", b"and", b"or", b"if", b"then", b"else", b"all",
-    b"some", b"goal", b"input", b"induct",
-];
 
 /// The byte there, or 0 past the end.
 pub(crate) fn byte_at(rest: &[u8], k: usize) -> u8
@@ -47,7 +42,7 @@ fn front(rest: &[u8], n: usize) -> &[u8]
 }
 
 fn at_most(limit: usize, n: usize) -> usize
-    ensures { result ≡ lexing.at_most limit n }
+    ensures { result ≡ tokens.at_most limit n }
 {
     if limit < n { 0 } else { n }
 }
@@ -65,7 +60,7 @@ pub(crate) fn text_len(bytes: &[u8]) -> usize
 }
 
 fn run_len(text: &str) -> usize
-    ensures value { result ≡ lexing.run_len (chars text.now) }
+    ensures value { result ≡ tokens.run_len (chars text.now) }
     ensures within { result ≤ length text.now }
 {
     let mut total = 0;
@@ -79,7 +74,7 @@ fn run_len(text: &str) -> usize
 }
 
 fn word_len(text: &str) -> usize
-    ensures value { result ≡ lexing.word_len (chars text.now) }
+    ensures value { result ≡ tokens.word_len (chars text.now) }
     ensures within { result ≤ length text.now }
 {
     match text.chars().next() {
@@ -95,7 +90,7 @@ fn word_len(text: &str) -> usize
 }
 
 fn front_word_len(bytes: &[u8]) -> usize
-    ensures value { result ≡ lexing.word_len (lexing.front_chars bytes.now) }
+    ensures value { result ≡ tokens.word_len (tokens.front_chars bytes.now) }
     ensures within { result ≤ length bytes.now }
 {
     match str::from_utf8(front(bytes, text_len(bytes))) {
@@ -105,23 +100,23 @@ fn front_word_len(bytes: &[u8]) -> usize
 }
 
 /// The length of the name or reserved word at the front.
-#[tactic(auto, unfolding(crate::specs::Lexing::name_len))]
+#[tactic(auto, unfolding(syn_term::specs::Tokens::name_len))]
 pub(crate) fn name_len(rest: &[u8]) -> usize
-    ensures value { result ≡ lexing.name_len rest.now }
+    ensures value { result ≡ tokens.name_len rest.now }
     ensures within { result ≤ length rest.now }
 {
     at_most(MAX_NAME_BYTES, front_word_len(front(rest, NAME_WINDOW)))
 }
 
 fn is_reserved(word: &[u8]) -> bool
-    ensures { result ≡ lexing.is_reserved word.now }
+    ensures { result ≡ tokens.is_reserved word.now }
 {
-    RESERVED.contains(&word)
+    syn_term::is_reserved(word)
 }
 
-#[tactic(auto, unfolding(crate::specs::Lexing::free_name_len))]
+#[tactic(auto, unfolding(syn_term::specs::Tokens::free_name_len))]
 fn free_name_len(rest: &[u8]) -> usize
-    ensures value { result ≡ lexing.free_name_len rest.now }
+    ensures value { result ≡ tokens.free_name_len rest.now }
     ensures within { result ≤ length rest.now }
 {
     let n = name_len(rest);
@@ -134,9 +129,9 @@ fn is_tag_word(word: &[u8]) -> bool
     word == b"goal".as_slice() || word == b"induct".as_slice()
 }
 
-#[tactic(auto, unfolding(crate::specs::Lexing::tag_len))]
+#[tactic(auto, unfolding(syn_term::specs::Tokens::tag_len))]
 pub(crate) fn tag_len(rest: &[u8]) -> usize
-    ensures value { result ≡ lexing.tag_len rest.now }
+    ensures value { result ≡ tokens.tag_len rest.now }
     ensures within { result ≤ length rest.now }
 {
     let n = name_len(rest);
@@ -148,16 +143,16 @@ pub(crate) fn tag_len(rest: &[u8]) -> usize
 }
 
 fn digits(rest: &[u8]) -> usize
-    ensures value { result ≡ lexing.digits rest.now }
+    ensures value { result ≡ tokens.digits rest.now }
     ensures within { result ≤ length rest.now }
 {
     rest.iter().take_while(|b| b.is_ascii_digit()).count()
 }
 
 /// The length of the number at the front.
-#[tactic(auto, unfolding(crate::specs::Lexing::number_len))]
+#[tactic(auto, unfolding(syn_term::specs::Tokens::number_len))]
 pub(crate) fn number_len(rest: &[u8]) -> usize
-    ensures value { result ≡ lexing.number_len rest.now }
+    ensures value { result ≡ tokens.number_len rest.now }
     ensures within { result ≤ length rest.now }
 {
     let n = digits(rest);
@@ -169,9 +164,9 @@ pub(crate) fn number_len(rest: &[u8]) -> usize
 }
 
 /// The length of the number from 1 at the front.
-#[tactic(auto, unfolding(crate::specs::Lexing::counted_len))]
+#[tactic(auto, unfolding(syn_term::specs::Tokens::counted_len))]
 pub(crate) fn counted_len(rest: &[u8]) -> usize
-    ensures value { result ≡ lexing.counted_len rest.now }
+    ensures value { result ≡ tokens.counted_len rest.now }
     ensures within { result ≤ length rest.now }
 {
     if byte_at(rest, 0) == b'0' {
@@ -182,9 +177,9 @@ pub(crate) fn counted_len(rest: &[u8]) -> usize
 }
 
 /// The length of a colon and a name at the front, where the name is no reserved word.
-#[tactic(auto, unfolding(crate::specs::Lexing::sort_len))]
+#[tactic(auto, unfolding(syn_term::specs::Tokens::sort_len))]
 pub(crate) fn sort_len(rest: &[u8]) -> usize
-    ensures value { result ≡ lexing.sort_len rest.now }
+    ensures value { result ≡ tokens.sort_len rest.now }
     ensures within { result ≤ length rest.now }
 {
     if byte_at(rest, 0) != b':' {
@@ -195,9 +190,9 @@ pub(crate) fn sort_len(rest: &[u8]) -> usize
 }
 
 /// The length of a full stop and a number from 1 at the front.
-#[tactic(auto, unfolding(crate::specs::Lexing::stop_len))]
+#[tactic(auto, unfolding(syn_term::specs::Tokens::stop_len))]
 pub(crate) fn stop_len(rest: &[u8]) -> usize
-    ensures value { result ≡ lexing.stop_len rest.now }
+    ensures value { result ≡ tokens.stop_len rest.now }
     ensures within { result ≤ length rest.now }
 {
     if byte_at(rest, 0) != b'.' {

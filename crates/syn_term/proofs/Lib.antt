@@ -3,6 +3,7 @@ pub mod Same
 pub mod Banks
 pub mod Lists
 pub mod NameLaws
+pub mod ReservedLaws
 pub mod NumberLemmas
 pub mod SkolemLemmas
 pub mod SymbolLaws

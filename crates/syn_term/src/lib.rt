@@ -1,5 +1,5 @@
-//! Symbols and terms: names, the table of declared symbols, and terms as trees whose nodes are
-//! made by a bank alone.
+//! Symbols and terms: names and the kinds of tokens, the table of declared symbols, and terms as trees
+//! whose nodes are made by a bank alone.
 #![tactic(auto)]
 
 mod bank;
@@ -10,12 +10,14 @@ mod sorts;
 mod symbols;
 mod term;
 mod text;
+mod tokens;
 
 pub use bank::Bank;
 pub use memory::NoMemory;
-pub use names::{is_name, is_skolem_name};
+pub use names::{is_name, is_reserved, is_skolem_name};
 pub use pointer::Shared;
 pub use sorts::{Head, Kind, NamedSort, Shape, Sort, Sym, SymId, Var};
 pub use symbols::Symbols;
 pub use term::{Node, Place, Term};
 pub use text::Text;
+pub use tokens::TokenKind;

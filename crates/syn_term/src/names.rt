@@ -13,21 +13,22 @@ const MAX_NAME_BYTES: usize = 64;
 
 const NUMBER_END: u32 = 10_000_000;
 
-const RESERVED: [&str; 15] = [
-    "nat", "s", "true", "false", "not", "and", "or", "if", "then", "else", "all", "some", "goal",
-    "input", "induct",
+const RESERVED: [&[u8]; 15] = [
+    b"nat", b"s", b"true", b"false", b"not", b"and", b"or", b"if", b"then", b"else", b"all",
+    b"some", b"goal", b"input", b"induct",
 ];
 
-fn finds_reserved(text: &str) -> bool
-    ensures { result ≡ list_any (λ word. bytes_eq word text.now) reserved }
+fn finds_reserved(word: &[u8]) -> bool
+    ensures { result ≡ list_any (λ other. bytes_eq other word.now) reserved }
 {
-    RESERVED.contains(&text)
+    RESERVED.contains(&word)
 }
 
-fn is_reserved(text: &str) -> bool
-    ensures { IsTrue result ↔ Contains reserved text.now }
+/// Whether the bytes are a reserved word, which no symbol may have as its name.
+pub fn is_reserved(word: &[u8]) -> bool
+    ensures { IsTrue result ↔ Contains reserved word.now }
 {
-    finds_reserved(text)
+    finds_reserved(word)
 }
 
 fn starts(text: &str) -> bool
@@ -51,7 +52,7 @@ fn continues(text: &str) -> bool
 pub fn is_name(text: &str) -> bool
     ensures { IsTrue result ↔ IsName text.now }
 {
-    text.len() <= MAX_NAME_BYTES && !is_reserved(text) && starts(text) && continues(text)
+    text.len() <= MAX_NAME_BYTES && !is_reserved(text.as_bytes()) && starts(text) && continues(text)
 }
 
 fn is_tag(text: &str) -> bool

@@ -1,6 +1,7 @@
 use Rattle.std.proofs.Common.{◌+◌, List, sym, ◌∙◌, ap, subst, arith}
 use Rattle.syn_lex.specs.declared.token.Token.{Token}
-use Rattle.syn_lex.specs.Lexing.{starts, Spans}
+use Rattle.syn_term.specs.Tokens.{starts}
+use Rattle.syn_lex.specs.Lexing.{Spans}
 use Rattle.syn_lex.proofs.TokenSteps.{spans_blank, spans_token, starts_none, room}
 use Rattle.syn_lex.proofs.lexer.scan.Goals as goal
 

@@ -1,5 +1,5 @@
 use Rattle.std.proofs.Common.{List, ℕ, ap, ◌∙◌}
-use Rattle.syn_lex.specs.Lexing.{name_len, at_most, word_len, front_chars}
+use Rattle.syn_term.specs.Tokens.{name_len, at_most, word_len, front_chars}
 use Rattle.syn_lex.proofs.Window.{window}
 use Rattle.syn_lex.proofs.words.name_len.Goals as goal
 

@@ -1,6 +1,6 @@
 use Rattle.std.proofs.Common.{◌≡◌, ◌+◌, ◌≤◌, length, IsUtf8, chars}
 use Rattle.std.specs.Str.Iter.{chars_rest}
-use Rattle.syn_lex.specs.Lexing.{run_len}
+use Rattle.syn_term.specs.Tokens.{run_len}
 use Rattle.syn_lex.proofs.words.run_len.Given as goal
 
 abbrev pub invariant-loop-c : goal.invariant-loop-c
