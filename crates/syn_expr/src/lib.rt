@@ -2,6 +2,7 @@
 //! it, by the names of a scope.
 #![tactic(auto)]
 
+mod items;
 mod scope;
 
 pub use scope::Scope;

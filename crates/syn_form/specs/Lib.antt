@@ -7,3 +7,5 @@ pub mod Simplification
 pub mod Truth
 pub mod Scopes
 pub mod Printing
+pub mod Grammar
+pub mod Elaboration

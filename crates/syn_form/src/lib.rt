@@ -1,9 +1,13 @@
 //! Formulas and outputs as trees: their parts and positions, when two are one tree, the sign of a
 //! subformula, and simplification from the inside out, which keeps the truth of a formula. What it
 //! is for a tree to be plain, and substitutions and most general unifiers, are definitions here for
-//! the crates above.
+//! the crates above; so is the grammar of expressions.
 #![tactic(auto)]
 
+mod syntax;
 mod trees;
 
+pub use syntax::{
+    BinderSyntax, FormSyntax, HeadName, Lexeme, Mark, OutSyntax, Quantifier, TermSyntax,
+};
 pub use trees::{Binder, Form, Mono, Out, Part, QForm, Side};
