@@ -3,9 +3,11 @@
 #![tactic(auto)]
 
 mod bank;
+mod declared_sorts;
 mod memory;
 mod names;
 mod pointer;
+mod pos;
 mod sorts;
 mod symbols;
 mod term;
@@ -16,6 +18,7 @@ pub use bank::Bank;
 pub use memory::NoMemory;
 pub use names::{is_name, is_reserved, is_skolem_name};
 pub use pointer::Shared;
+pub use pos::Pos;
 pub use sorts::{Head, Kind, NamedSort, Shape, Sort, Sym, SymId, Var};
 pub use symbols::Symbols;
 pub use term::{Node, Place, Term};
