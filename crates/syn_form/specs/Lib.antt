@@ -1,6 +1,7 @@
 pub mod Trees
 pub mod Same
 pub mod Positions
+pub mod Sorts
 pub mod Plain
 pub mod Substitutions
 pub mod Simplification
@@ -8,4 +9,7 @@ pub mod Truth
 pub mod Scopes
 pub mod Printing
 pub mod Grammar
+pub mod Lists
+pub mod Quantified
 pub mod Elaboration
+pub mod Texts

@@ -1,8 +1,6 @@
 -- Substitutions, which replace variables by terms in all places at once, and most general unifiers.
-use Rattle.std.specs.Prelude.{◌≡◌, Bool, true, false, ◌&&◌, List, [], ◌∷◌, Some, Contains, All, if◌then◌else◌, nat_eq, map}
+use Rattle.std.specs.Prelude.{◌≡◌, Bool, ◌&&◌, List, [], ◌∷◌, Some, Contains, All, if◌then◌else◌, nat_eq, map}
 use Rattle.std.specs.List.{flat_map}
-use Rattle.syn_term.specs.declared.sorts.Sort.{Sort}
-use Rattle.syn_term.specs.declared.sorts.Sort.TheVariants as sort
 use Rattle.syn_term.specs.declared.sorts.Var.{Var}
 use Rattle.syn_term.specs.declared.term.Node.{Node, fold-Node}
 use Rattle.syn_term.specs.declared.term.Node.TheOpen.{Node-F}
@@ -17,6 +15,7 @@ use Rattle.syn_form.specs.declared.trees.Out.TheOpen.{Out-F}
 use Rattle.syn_form.specs.declared.trees.Out.TheVariants as out
 use Rattle.syn_form.specs.declared.trees.Out.TheViews as out_view
 use Rattle.syn_form.specs.Trees.{FormTree, OutTree, bare_form, term_vars, form_vars}
+use Rattle.syn_form.specs.Sorts.{same_sort}
 use Rattle.syn_form.specs.Plain.{IsSorted}
 
 -- a binding is a variable and the term that it becomes
@@ -31,11 +30,6 @@ Substitution = List Binding
 -- each variable is bound to a term of its own sort
 abbrev pub KeepsSorts : SymbolTable → Substitution → Type 0
 KeepsSorts table = All (λ b. IsSorted table b.term × (sort_of table b.term ≡ Some b.var.sort))
-
-abbrev pub same_sort : Sort → Sort → Bool
-same_sort sort.Nat sort.Nat = true
-same_sort (sort.Named m) (sort.Named n) = nat_eq m n
-same_sort _ _ = false
 
 -- whether two variables are one: their numbers and their sorts are
 abbrev pub same_var : Var → Var → Bool

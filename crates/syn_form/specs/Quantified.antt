@@ -1,0 +1,73 @@
+-- Formulas with quantifiers: their numbers, and those that have none.
+use Rattle.std.specs.Prelude.{ℕ, ◌+◌, max, sum, List, [], ◌∷◌, ◌++◌, Option, None, Some, map}
+use Rattle.std.specs.List.{flat_map}
+use Rattle.std.specs.Option.{option_map, option_and_then}
+use Rattle.syn_term.specs.declared.sorts.Var.{Var}
+use Rattle.syn_term.specs.Terms.{nodes, depth_of, greatest}
+use Rattle.syn_form.specs.declared.trees.Form.TheVariants as form
+use Rattle.syn_form.specs.declared.trees.Form.TheViews as view
+use Rattle.syn_form.specs.declared.trees.QForm.{fold-QForm}
+use Rattle.syn_form.specs.declared.trees.QForm.TheOpen.{QForm-F}
+use Rattle.syn_form.specs.Lists.{all_there}
+use Rattle.syn_form.specs.Trees.{FormTree, QFormTree, all_of, term_vars}
+
+abbrev pub qform_nodes_step : QForm-F ℕ → ℕ
+qform_nodes_step (QForm-F.Atom r args) = 1 + sum (map nodes args)
+qform_nodes_step (QForm-F.Equal s t) = 1 + (nodes s + nodes t)
+qform_nodes_step (QForm-F.Not a) = 1 + a
+qform_nodes_step (QForm-F.And all) = 1 + sum all
+qform_nodes_step (QForm-F.Or all) = 1 + sum all
+qform_nodes_step (QForm-F.Implies a b) = 1 + (a + b)
+qform_nodes_step (QForm-F.All b a) = 1 + a
+qform_nodes_step (QForm-F.Exists b a) = 1 + a
+qform_nodes_step _ = 1
+
+-- the number of nodes; a quantifier with its binder is one
+abbrev pub qform_nodes : QFormTree → ℕ
+qform_nodes = fold-QForm ℕ qform_nodes_step
+
+abbrev pub qform_depth_step : QForm-F ℕ → ℕ
+qform_depth_step (QForm-F.Atom r args) = 1 + greatest (map depth_of args)
+qform_depth_step (QForm-F.Equal s t) = 1 + max (depth_of s) (depth_of t)
+qform_depth_step (QForm-F.Not a) = 1 + a
+qform_depth_step (QForm-F.And all) = 1 + greatest all
+qform_depth_step (QForm-F.Or all) = 1 + greatest all
+qform_depth_step (QForm-F.Implies a b) = 1 + max a b
+qform_depth_step (QForm-F.All b a) = 1 + a
+qform_depth_step (QForm-F.Exists b a) = 1 + a
+qform_depth_step _ = 1
+
+-- the depth; a leaf has depth 1
+abbrev pub qform_depth : QFormTree → ℕ
+qform_depth = fold-QForm ℕ qform_depth_step
+
+abbrev pub qform_vars_step : QForm-F (List Var) → List Var
+qform_vars_step (QForm-F.Atom r args) = flat_map term_vars args
+qform_vars_step (QForm-F.Equal s t) = term_vars s ++ term_vars t
+qform_vars_step (QForm-F.Not a) = a
+qform_vars_step (QForm-F.And all) = all_of all
+qform_vars_step (QForm-F.Or all) = all_of all
+qform_vars_step (QForm-F.Implies a b) = a ++ b
+qform_vars_step (QForm-F.All b a) = b.var ∷ a
+qform_vars_step (QForm-F.Exists b a) = b.var ∷ a
+qform_vars_step _ = []
+
+-- the variables of the terms and of the binders, from the left
+abbrev pub qform_vars : QFormTree → List Var
+qform_vars = fold-QForm (List Var) qform_vars_step
+
+abbrev pub unquantified_step : QForm-F (Option FormTree) → Option FormTree
+unquantified_step QForm-F.True = Some form.True
+unquantified_step QForm-F.False = Some form.False
+unquantified_step (QForm-F.Atom r args) = Some (form.Atom r args)
+unquantified_step (QForm-F.Equal s t) = Some (form.Equal s t)
+unquantified_step (QForm-F.Not a) = option_map view.Not a
+unquantified_step (QForm-F.And all) = option_map view.And (all_there all)
+unquantified_step (QForm-F.Or all) = option_map view.Or (all_there all)
+unquantified_step (QForm-F.Implies a b) = option_and_then (λ x. option_map (view.Implies x) b) a
+unquantified_step (QForm-F.All b a) = None
+unquantified_step (QForm-F.Exists b a) = None
+
+-- the same formula as one without quantifiers, none where it has one
+abbrev pub unquantified : QFormTree → Option FormTree
+unquantified = fold-QForm (Option FormTree) unquantified_step
