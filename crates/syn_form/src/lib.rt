@@ -4,6 +4,8 @@
 //! the crates above; so is the grammar of expressions.
 #![tactic(auto)]
 
+mod form;
+mod output;
 mod syntax;
 mod trees;
 
