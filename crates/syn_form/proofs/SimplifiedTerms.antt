@@ -20,10 +20,6 @@ use Rattle.syn_form.proofs.Lists.{none_in_nil, Contains-tail, Contains-along, fl
 use Rattle.syn_form.proofs.Shapes.{Negated, of_true, of_false, of_not, Opened, a_chain, single, Implied, left_true, left_false, right_true, right_false, Equated, Chosen, first, second, Joined, by_member, by_pair, open_still, negated_is, opened_is, implied_is, equated_is, chosen_is, joined_is}
 use Rattle.syn_form.proofs.Shapes as shape
 
--- the terms of a list of formulas
-abbrev terms_of : List FormTree → List TermTree
-terms_of = flat_map form_terms
-
 -- a list of terms that has no others than another list
 abbrev pub Among : List TermTree → List TermTree → Type 0
 Among xs ys = (t : TermTree) → Contains xs t → Contains ys t
