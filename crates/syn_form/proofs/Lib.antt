@@ -5,3 +5,5 @@ pub mod Inductions
 pub mod Lists
 pub mod Shapes
 pub mod SimplifiedTerms
+pub mod SimplifiedTruth
+pub mod SimplifiedSize
