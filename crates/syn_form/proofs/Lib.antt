@@ -7,3 +7,5 @@ pub mod Shapes
 pub mod SimplifiedTerms
 pub mod SimplifiedTruth
 pub mod SimplifiedSize
+pub mod Nodes
+pub mod SimplifiedPlain
