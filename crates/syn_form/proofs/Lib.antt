@@ -9,3 +9,5 @@ pub mod SimplifiedTruth
 pub mod SimplifiedSize
 pub mod Nodes
 pub mod SimplifiedPlain
+pub mod SimplifiedTwice
+pub mod Simplifies

@@ -53,6 +53,14 @@ module _ {X Y : Type 0} (f : X → List Y) where
   all_of-map [] = refl
   all_of-map (x ∷ xs) = ap (λ (zs : List Y). f x ++ zs) (all_of-map xs)
 
+-- two lists in a row, the elements of each in another
+pub Contains-append_both : {X : Type 0} (xs ys vs ws : List X) → ((x : X) → Contains xs x → Contains vs x) → ((x : X) → Contains ys x → Contains ws x) → (x : X) → Contains (xs ++ ys) x → Contains (vs ++ ws) x
+Contains-append_both xs ys vs ws a b x c = go (Contains-append_cases xs ys x c)
+  where
+    go : Contains xs x ⊎ Contains ys x → Contains (vs ++ ws) x
+    go (inl h) = Contains-append_left vs ws x (a x h)
+    go (inr h) = Contains-append_right vs ws x (b x h)
+
 -- what a filter leaves was there before
 pub Contains-filter : {X : Type 0} (p : X → Bool) (xs : List X) (x : X) → Contains (filter p xs) x → Contains xs x
 Contains-filter p [] x c = c

@@ -1,8 +1,10 @@
 -- Simplification keeps plain formulas and outputs plain, and the sort of what an output gives.
-use Rattle.std.proofs.Common.{◌≡◌, ◌≤◌, List, [], ◌∷◌, Option, All, map, length, refl, sym, ◌∙◌, ap, subst, arith, get_or}
+use Rattle.std.proofs.Common.{Contains, ◌≡◌, ◌≤◌, List, [], ◌∷◌, Option, All, map, length, refl, sym, ◌∙◌, ap, subst, arith, get_or, None, Some, ◌++◌}
+use Rattle.std.specs.Option.{option_map}
 use Rattle.std.specs.List.{flat_map}
 use Rattle.std.proofs.lemmas.List.Elements.{All-nil, All-cons, All-head, All-map}
 use Rattle.syn_term.specs.declared.sorts.Sort.{Sort}
+use Rattle.syn_term.specs.declared.sorts.Var.{Var}
 use Rattle.syn_term.specs.Symbols.{SymbolTable}
 use Rattle.syn_term.specs.Terms.{TermTree, sort_of}
 use Rattle.syn_form.specs.declared.trees.Form.TheOpen.{Form-F}
@@ -11,12 +13,12 @@ use Rattle.syn_form.specs.declared.trees.Form.TheViews as view
 use Rattle.syn_form.specs.declared.trees.Out.TheOpen.{Out-F}
 use Rattle.syn_form.specs.declared.trees.Out.TheVariants as out
 use Rattle.syn_form.specs.declared.trees.Out.TheViews as out_view
-use Rattle.syn_form.specs.Trees.{FormTree, OutTree}
-use Rattle.syn_form.specs.Plain.{IsSorted, IsAtom, IsFormed, IsPlainForm, given_sort, IsFormedOut, IsPlainOut}
+use Rattle.syn_form.specs.Trees.{FormTree, OutTree, form_vars, out_vars}
+use Rattle.syn_form.specs.Plain.{HasOneSortEach, IsSorted, IsAtom, IsFormed, IsPlainForm, given_sort, IsFormedOut, IsPlainOut, IsPlainRow}
 use Rattle.syn_form.specs.Simplification.{Junction, conjunction, disjunction, chain, neutral, deciding, opened, members_left, chain_of, joined, negated, implied, equated, chosen, simplified_form, simplified_form_step, simplified_out, simplified_out_step}
 use Rattle.syn_form.proofs.Equations.{fold-True, fold-False, fold-Atom, fold-Equal, fold-Not, fold-Implies, fold-Give, fold-If}
 use Rattle.syn_form.proofs.Inductions.{by_form_cases, by_out_cases}
-use Rattle.syn_form.proofs.Lists.{All-within, All-flat_map}
+use Rattle.syn_form.proofs.Lists.{Contains-append_both, All-within, All-flat_map}
 use Rattle.syn_form.proofs.Nodes.{chain_layer, part-Not, parts-chain, parts-Implies, every-True, every-False, every-Not, every-Implies, every-chain, node-If, parts-If, every-If}
 use Rattle.syn_form.proofs.Shapes.{Negated, of_true, of_false, of_not, Opened, a_chain, single, Implied, left_true, left_false, right_true, right_false, Equated, Chosen, first, second, Joined, by_member, by_pair, open_still, negated_is, opened_is, implied_is, equated_is, chosen_is, joined_is}
 use Rattle.syn_form.proofs.Shapes as shape
@@ -25,6 +27,10 @@ use Rattle.syn_form.proofs.SimplifiedTerms.{simplified_form-chain, simplified_fo
 -- what holds of the opened members holds of those that are left
 pub All-members_left : (P : FormTree → Type 0) (j : Junction) (fs : List FormTree) → All (λ f. All P (opened j f)) fs → All P (members_left j fs)
 All-members_left P j fs h = All-within P (members_left j fs) (flat_map (opened j) fs) (Contains-members_left j fs) (All-flat_map P (opened j) fs h)
+
+-- where no variable number has two sorts, none has in a list that has no other variables
+pub HasOneSortEach-among : (vs ws : List Var) → ((v : Var) → Contains vs v → Contains ws v) → HasOneSortEach ws → HasOneSortEach vs
+HasOneSortEach-among vs ws sub h = λ v w a b e. h v w (sub v a) (sub w b) e
 
 module _ (table : SymbolTable) where
   -- what is asked of one node of a formula
@@ -114,7 +120,7 @@ module _ (table : SymbolTable) where
   pub simplified_form-plain : (f : FormTree) → IsPlainForm table f → IsPlainForm table (simplified_form f)
   simplified_form-plain f h = record {
     formed = simplified_form-formed f h.formed;
-    sorts = λ v w a b e. h.sorts v w (simplified_form-vars f v a) (simplified_form-vars f w b) e;
+    sorts = HasOneSortEach-among (form_vars (simplified_form f)) (form_vars f) (simplified_form-vars f) h.sorts;
   }
 
   -- the sort of what an output gives, by its node
@@ -158,5 +164,18 @@ module _ (table : SymbolTable) where
   pub simplified_out-plain : (o : OutTree) → IsPlainOut table o → IsPlainOut table (simplified_out o)
   simplified_out-plain o h = record {
     formed = (simplified_out-formed o h.formed).0;
-    sorts = λ v w a b e. h.sorts v w (simplified_out-vars o v a) (simplified_out-vars o w b) e;
+    sorts = HasOneSortEach-among (out_vars (simplified_out o)) (out_vars o) (simplified_out-vars o) h.sorts;
+  }
+
+  -- a plain row whose formula and output are simplified is a plain row
+  pub simplified_row-plain : (f : FormTree) (o : Option OutTree) → IsPlainRow table f o → IsPlainRow table (simplified_form f) (option_map simplified_out o)
+  simplified_row-plain f None h = record {
+    form = simplified_form-formed f h.form;
+    out = h.out;
+    sorts = HasOneSortEach-among (form_vars (simplified_form f) ++ []) (form_vars f ++ []) (Contains-append_both (form_vars (simplified_form f)) [] (form_vars f) [] (simplified_form-vars f) (λ v c. c)) h.sorts;
+  }
+  simplified_row-plain f (Some o) h = record {
+    form = simplified_form-formed f h.form;
+    out = (simplified_out-formed o h.out).0;
+    sorts = HasOneSortEach-among (form_vars (simplified_form f) ++ out_vars (simplified_out o)) (form_vars f ++ out_vars o) (Contains-append_both (form_vars (simplified_form f)) (out_vars (simplified_out o)) (form_vars f) (out_vars o) (simplified_form-vars f) (simplified_out-vars o)) h.sorts;
   }
