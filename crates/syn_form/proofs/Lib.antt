@@ -11,3 +11,8 @@ pub mod Nodes
 pub mod SimplifiedPlain
 pub mod SimplifiedTwice
 pub mod Simplifies
+pub mod Depths
+pub mod Chains
+pub mod Owned
+pub mod Sameness
+pub mod Fewer

@@ -33,8 +33,10 @@ simplifies_out o = record {
 }
 
 -- for a contract: what is the formula, or the output, simplified also simplifies it
-pub simplifies_form-from : (f g : FormTree) → g ≡ simplified_form f → SimplifiesForm f g
-simplifies_form-from f g e = subst (SimplifiesForm f) (sym e) (simplifies_form f)
+pub simplifies_form_from : (f g : FormTree) → g ≡ simplified_form f → SimplifiesForm f g
+simplifies_form_from f g e = subst (SimplifiesForm f) (sym e) (simplifies_form f)
 
-pub simplifies_out-from : (o p : OutTree) → p ≡ simplified_out o → SimplifiesOut o p
-simplifies_out-from o p e = subst (SimplifiesOut o) (sym e) (simplifies_out o)
+pub simplifies_out_from : (o p : OutTree) → p ≡ simplified_out o → SimplifiesOut o p
+simplifies_out_from o p e = subst (SimplifiesOut o) (sym e) (simplifies_out o)
+
+pub ruleset simplifying = (simplifies_form_from, simplifies_out_from)
