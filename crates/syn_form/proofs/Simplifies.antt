@@ -1,5 +1,6 @@
 -- The laws of simplification, put together.
-use Rattle.std.proofs.Common.{◌≡◌, sym, subst}
+use Rattle.std.proofs.Common.{◌≡◌, Result, IfOk, sym, subst}
+use Rattle.std.proofs.lemmas.Result.{IfOk-weaker}
 use Rattle.syn_form.specs.Trees.{FormTree, OutTree}
 use Rattle.syn_form.specs.Simplification.{simplified_form, simplified_out}
 use Rattle.syn_form.specs.SimplificationLaws.{SimplifiesForm, SimplifiesOut}
@@ -32,11 +33,16 @@ simplifies_out o = record {
   variables = simplified_out-vars o;
 }
 
--- for a contract: what is the formula, or the output, simplified also simplifies it
+-- what is the formula, or the output, simplified also simplifies it
 pub simplifies_form_from : (f g : FormTree) → g ≡ simplified_form f → SimplifiesForm f g
 simplifies_form_from f g e = subst (SimplifiesForm f) (sym e) (simplifies_form f)
 
 pub simplifies_out_from : (o p : OutTree) → p ≡ simplified_out o → SimplifiesOut o p
 simplifies_out_from o p e = subst (SimplifiesOut o) (sym e) (simplifies_out o)
 
-pub ruleset simplifying = (simplifies_form_from, simplifies_out_from)
+-- the same for what a call answers that may fail
+pub simplifies_form_ok : {E : Type 0} (r : Result FormTree E) (f : FormTree) → IfOk r (λ g. g ≡ simplified_form f) → IfOk r (SimplifiesForm f)
+simplifies_form_ok r f h = IfOk-weaker r (λ g. g ≡ simplified_form f) (SimplifiesForm f) (simplifies_form_from f) h
+
+pub simplifies_out_ok : {E : Type 0} (r : Result OutTree E) (o : OutTree) → IfOk r (λ p. p ≡ simplified_out o) → IfOk r (SimplifiesOut o)
+simplifies_out_ok r o h = IfOk-weaker r (λ p. p ≡ simplified_out o) (SimplifiesOut o) (simplifies_out_from o) h
