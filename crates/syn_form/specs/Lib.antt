@@ -6,6 +6,7 @@ pub mod Plain
 pub mod Substitutions
 pub mod Simplification
 pub mod Truth
+pub mod SimplificationLaws
 pub mod Scopes
 pub mod Printing
 pub mod Grammar

@@ -17,7 +17,7 @@ use Rattle.syn_form.specs.declared.trees.Out.{Out, fold-Out, every-Out}
 use Rattle.syn_form.specs.declared.trees.Out.TheOpen.{Out-F}
 use Rattle.syn_form.specs.Trees.{FormTree, OutTree, form_vars, out_vars}
 
-abbrev SortedNode : SymbolTable → Node-F Node → Type 0
+abbrev pub SortedNode : SymbolTable → Node-F Node → Type 0
 SortedNode table (Node-F.Var place v) = Unit {0}
 SortedNode table (Node-F.App place f args) = IsApplication table f args
 
@@ -32,7 +32,7 @@ pub record IsAtom (table : SymbolTable) (r : SymId) (args : List TermTree) : Typ
   pub relation : (sym.kind ≡ kind.Rel) ⊎ (sym.kind ≡ kind.Order)
   pub sorts : map (sort_of table) args ≡ map Some sym.args
 
-abbrev PlainFormNode : SymbolTable → Form-F Form → Type 0
+abbrev pub PlainFormNode : SymbolTable → Form-F Form → Type 0
 PlainFormNode table (Form-F.Atom r args) = IsAtom table r args × All (IsSorted table) args
 PlainFormNode table (Form-F.Equal s t) = IsSorted table s × IsSorted table t × (sort_of table s ≡ sort_of table t)
 PlainFormNode table (Form-F.And all) = 2 ≤ length all
@@ -51,7 +51,7 @@ pub record IsPlainForm (table : SymbolTable) (f : FormTree) : Type 0 where
   pub formed : IsFormed table f
   pub sorts : HasOneSortEach (form_vars f)
 
-abbrev given_sort_step : SymbolTable → Out-F (Option Sort) → Option Sort
+abbrev pub given_sort_step : SymbolTable → Out-F (Option Sort) → Option Sort
 given_sort_step table (Out-F.Give t) = sort_of table t
 given_sort_step table (Out-F.If f u v) = u
 
@@ -59,7 +59,7 @@ given_sort_step table (Out-F.If f u v) = u
 abbrev pub given_sort : SymbolTable → OutTree → Option Sort
 given_sort table = fold-Out (Option Sort) (given_sort_step table)
 
-abbrev PlainOutNode : SymbolTable → Out-F Out → Type 0
+abbrev pub PlainOutNode : SymbolTable → Out-F Out → Type 0
 PlainOutNode table (Out-F.Give t) = IsSorted table t
 PlainOutNode table (Out-F.If f u v) = IsFormed table f × (given_sort table u ≡ given_sort table v)
 

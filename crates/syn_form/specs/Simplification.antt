@@ -33,7 +33,7 @@ abbrev pub chain : Junction → List FormTree → FormTree
 chain conjunction all = view.And all
 chain disjunction all = view.Or all
 
-abbrev opened_layer : Junction → FormTree → Form-F FormTree → List FormTree
+abbrev pub opened_layer : Junction → FormTree → Form-F FormTree → List FormTree
 opened_layer conjunction f (Form-F.And all) = all
 opened_layer disjunction f (Form-F.Or all) = all
 opened_layer j f _ = f ∷ []
@@ -69,7 +69,7 @@ chain_of j (f ∷ g ∷ fs) = chain j (f ∷ g ∷ fs)
 abbrev pub joined : Junction → List FormTree → FormTree
 joined j fs = if has_form (members_left j fs) (deciding j) || has_both (members_left j fs) then deciding j else chain_of j (members_left j fs)
 
-abbrev negated_layer : FormTree → Form-F FormTree → FormTree
+abbrev pub negated_layer : FormTree → Form-F FormTree → FormTree
 negated_layer f Form-F.True = form.False
 negated_layer f Form-F.False = form.True
 negated_layer f (Form-F.Not a) = a
@@ -79,7 +79,7 @@ negated_layer f _ = view.Not f
 abbrev pub negated : FormTree → FormTree
 negated f = negated_layer f (out-Form f)
 
-abbrev implied_layer : FormTree → FormTree → Form-F FormTree → Form-F FormTree → FormTree
+abbrev pub implied_layer : FormTree → FormTree → Form-F FormTree → Form-F FormTree → FormTree
 implied_layer a b Form-F.True y = b
 implied_layer a b Form-F.False y = form.True
 implied_layer a b x Form-F.True = form.True
@@ -108,7 +108,7 @@ simplified_form_step (Form-F.Implies a b) = implied a b
 abbrev pub simplified_form : FormTree → FormTree
 simplified_form = fold-Form FormTree simplified_form_step
 
-abbrev chosen_layer : FormTree → Form-F FormTree → OutTree → OutTree → OutTree
+abbrev pub chosen_layer : FormTree → Form-F FormTree → OutTree → OutTree → OutTree
 chosen_layer f Form-F.True u v = u
 chosen_layer f Form-F.False u v = v
 chosen_layer f _ u v = if same_out u v then u else out_view.If f u v
