@@ -10,7 +10,7 @@ use Rattle.syn_form.specs.declared.trees.Form.TheViews as view
 use Rattle.syn_form.specs.declared.trees.Out.TheViews as out_view
 use Rattle.syn_form.specs.Trees.{FormTree, OutTree}
 use Rattle.syn_form.specs.Same.{same_form, same_out}
-use Rattle.syn_form.specs.Simplification.{Junction, conjunction, disjunction, chain, deciding, opened, has_form, has_both, members_left, chain_of, joined, negated, implied, equated, chosen}
+use Rattle.syn_form.specs.Simplification.{Junction, conjunction, disjunction, chain, deciding, opened, has_form, has_both, members_left, chain_of, joined, negated, negated_layer, opened_layer, implied, implied_layer, equated, chosen, chosen_layer}
 
 rolled : (f : FormTree) (x : Form-F FormTree) → out-Form f ≡ x → f ≡ roll-Form x
 rolled f x e = sym (roll-out-Form f) ∙ ap roll-Form e
@@ -22,18 +22,12 @@ pub data Negated (f : FormTree) : FormTree → Type 0 where
   of_not : (a : FormTree) → f ≡ view.Not a → Negated f a
   kept : negated f ≡ view.Not f → Negated f (view.Not f)
 
-abbrev negated_at : FormTree → Form-F FormTree → FormTree
-negated_at f Form-F.True = form.False
-negated_at f Form-F.False = form.True
-negated_at f (Form-F.Not a) = a
-negated_at f _ = view.Not f
-
-negated_case : (f : FormTree) (x : Form-F FormTree) → out-Form f ≡ x → Negated f (negated_at f x)
+negated_case : (f : FormTree) (x : Form-F FormTree) → out-Form f ≡ x → Negated f (negated_layer f x)
 unfolding roll-Form roll
 negated_case f Form-F.True e = of_true (rolled f Form-F.True e)
 negated_case f Form-F.False e = of_false (rolled f Form-F.False e)
 negated_case f (Form-F.Not a) e = of_not a (rolled f (Form-F.Not a) e)
-negated_case f x e = kept (ap (negated_at f) e)
+negated_case f x e = kept (ap (negated_layer f) e)
 
 pub negated_is : (f : FormTree) → Negated f (negated f)
 negated_is f = negated_case f (out-Form f) refl
@@ -43,17 +37,12 @@ pub data Opened (j : Junction) (f : FormTree) : List FormTree → Type 0 where
   a_chain : (all : List FormTree) → f ≡ chain j all → Opened j f all
   single : opened j f ≡ f ∷ [] → Opened j f (f ∷ [])
 
-abbrev opened_at : Junction → FormTree → Form-F FormTree → List FormTree
-opened_at conjunction f (Form-F.And all) = all
-opened_at disjunction f (Form-F.Or all) = all
-opened_at j f _ = f ∷ []
-
-opened_case : (j : Junction) (f : FormTree) (x : Form-F FormTree) → out-Form f ≡ x → Opened j f (opened_at j f x)
+opened_case : (j : Junction) (f : FormTree) (x : Form-F FormTree) → out-Form f ≡ x → Opened j f (opened_layer j f x)
 unfolding roll-Form roll
 opened_case conjunction f (Form-F.And all) e = a_chain all (rolled f (Form-F.And all) e)
 opened_case disjunction f (Form-F.Or all) e = a_chain all (rolled f (Form-F.Or all) e)
-opened_case conjunction f x e = single (ap (opened_at conjunction f) e)
-opened_case disjunction f x e = single (ap (opened_at disjunction f) e)
+opened_case conjunction f x e = single (ap (opened_layer conjunction f) e)
+opened_case disjunction f x e = single (ap (opened_layer disjunction f) e)
 
 pub opened_is : (j : Junction) (f : FormTree) → Opened j f (opened j f)
 opened_is conjunction f = opened_case conjunction f (out-Form f) refl
@@ -68,24 +57,17 @@ pub data Implied (a b : FormTree) : FormTree → Type 0 where
   one : same_form a b ≡ true → Implied a b form.True
   kept : implied a b ≡ view.Implies a b → Implied a b (view.Implies a b)
 
-abbrev implied_at : FormTree → FormTree → Form-F FormTree → Form-F FormTree → FormTree
-implied_at a b Form-F.True y = b
-implied_at a b Form-F.False y = form.True
-implied_at a b x Form-F.True = form.True
-implied_at a b x Form-F.False = negated a
-implied_at a b x y = cond (same_form a b) form.True (view.Implies a b)
-
 implied_end : (a b : FormTree) (t : Bool) → same_form a b ≡ t → implied a b ≡ cond t form.True (view.Implies a b) → Implied a b (cond t form.True (view.Implies a b))
 implied_end a b true same e = one same
 implied_end a b false same e = kept e
 
-implied_case : (a b : FormTree) (x y : Form-F FormTree) → out-Form a ≡ x → out-Form b ≡ y → Implied a b (implied_at a b x y)
+implied_case : (a b : FormTree) (x y : Form-F FormTree) → out-Form a ≡ x → out-Form b ≡ y → Implied a b (implied_layer a b x y)
 unfolding roll-Form roll
 implied_case a b Form-F.True y d e = left_true (rolled a Form-F.True d)
 implied_case a b Form-F.False y d e = left_false (rolled a Form-F.False d)
 implied_case a b x Form-F.True d e = right_true (rolled b Form-F.True e)
 implied_case a b x Form-F.False d e = right_false (rolled b Form-F.False e)
-implied_case a b x y d e = implied_end a b (same_form a b) refl (ap (λ (z : Form-F FormTree). implied_at a b z (out-Form b)) d ∙ ap (implied_at a b x) e)
+implied_case a b x y d e = implied_end a b (same_form a b) refl (ap (λ (z : Form-F FormTree). implied_layer a b z (out-Form b)) d ∙ ap (implied_layer a b x) e)
 
 pub implied_is : (a b : FormTree) → Implied a b (implied a b)
 implied_is a b = implied_case a b (out-Form a) (out-Form b) refl refl
@@ -109,20 +91,15 @@ pub data Chosen (f : FormTree) (u v : OutTree) : OutTree → Type 0 where
   one : same_out u v ≡ true → Chosen f u v u
   kept : chosen f u v ≡ out_view.If f u v → Chosen f u v (out_view.If f u v)
 
-abbrev chosen_at : FormTree → Form-F FormTree → OutTree → OutTree → OutTree
-chosen_at f Form-F.True u v = u
-chosen_at f Form-F.False u v = v
-chosen_at f _ u v = cond (same_out u v) u (out_view.If f u v)
-
 chosen_end : (f : FormTree) (u v : OutTree) (t : Bool) → same_out u v ≡ t → chosen f u v ≡ cond t u (out_view.If f u v) → Chosen f u v (cond t u (out_view.If f u v))
 chosen_end f u v true same e = one same
 chosen_end f u v false same e = kept e
 
-chosen_case : (f : FormTree) (u v : OutTree) (x : Form-F FormTree) → out-Form f ≡ x → Chosen f u v (chosen_at f x u v)
+chosen_case : (f : FormTree) (u v : OutTree) (x : Form-F FormTree) → out-Form f ≡ x → Chosen f u v (chosen_layer f x u v)
 unfolding roll-Form roll
 chosen_case f u v Form-F.True e = first (rolled f Form-F.True e)
 chosen_case f u v Form-F.False e = second (rolled f Form-F.False e)
-chosen_case f u v x e = chosen_end f u v (same_out u v) refl (ap (λ (z : Form-F FormTree). chosen_at f z u v) e)
+chosen_case f u v x e = chosen_end f u v (same_out u v) refl (ap (λ (z : Form-F FormTree). chosen_layer f z u v) e)
 
 pub chosen_is : (f : FormTree) (u v : OutTree) → Chosen f u v (chosen f u v)
 chosen_is f u v = chosen_case f u v (out-Form f) refl

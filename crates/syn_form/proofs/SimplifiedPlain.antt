@@ -6,15 +6,13 @@ use Rattle.std.proofs.lemmas.List.Elements.{All-nil, All-cons, All-head, All-map
 use Rattle.syn_term.specs.declared.sorts.Sort.{Sort}
 use Rattle.syn_term.specs.declared.sorts.Var.{Var}
 use Rattle.syn_term.specs.Symbols.{SymbolTable}
-use Rattle.syn_term.specs.Terms.{TermTree, sort_of}
-use Rattle.syn_form.specs.declared.trees.Form.TheOpen.{Form-F}
+use Rattle.syn_term.specs.Terms.{TermTree}
 use Rattle.syn_form.specs.declared.trees.Form.TheVariants as form
 use Rattle.syn_form.specs.declared.trees.Form.TheViews as view
-use Rattle.syn_form.specs.declared.trees.Out.TheOpen.{Out-F}
 use Rattle.syn_form.specs.declared.trees.Out.TheVariants as out
 use Rattle.syn_form.specs.declared.trees.Out.TheViews as out_view
 use Rattle.syn_form.specs.Trees.{FormTree, OutTree, form_vars, out_vars}
-use Rattle.syn_form.specs.Plain.{HasOneSortEach, IsSorted, IsAtom, IsFormed, IsPlainForm, given_sort, IsFormedOut, IsPlainOut, IsPlainRow}
+use Rattle.syn_form.specs.Plain.{HasOneSortEach, IsFormed, IsPlainForm, given_sort, given_sort_step, IsFormedOut, IsPlainOut, IsPlainRow, PlainFormNode, PlainOutNode}
 use Rattle.syn_form.specs.Simplification.{Junction, conjunction, disjunction, chain, neutral, deciding, opened, members_left, chain_of, joined, negated, implied, equated, chosen, simplified_form, simplified_form_step, simplified_out, simplified_out_step}
 use Rattle.syn_form.proofs.Equations.{fold-True, fold-False, fold-Atom, fold-Equal, fold-Not, fold-Implies, fold-Give, fold-If}
 use Rattle.syn_form.proofs.Inductions.{by_form_cases, by_out_cases}
@@ -33,19 +31,11 @@ pub HasOneSortEach-among : (vs ws : List Var) → ((v : Var) → Contains vs v �
 HasOneSortEach-among vs ws sub h = λ v w a b e. h v w (sub v a) (sub w b) e
 
 module _ (table : SymbolTable) where
-  -- what is asked of one node of a formula
-  abbrev FormedNode : Form-F FormTree → Type 0
-  FormedNode (Form-F.Atom r args) = IsAtom table r args × All (IsSorted table) args
-  FormedNode (Form-F.Equal s t) = IsSorted table s × IsSorted table t × (sort_of table s ≡ sort_of table t)
-  FormedNode (Form-F.And all) = 2 ≤ length all
-  FormedNode (Form-F.Or all) = 2 ≤ length all
-  FormedNode _ = Unit {0}
-
   formed-True : IsFormed table form.True
-  formed-True = every-True FormedNode tt
+  formed-True = every-True (PlainFormNode table) tt
 
   formed-False : IsFormed table form.False
-  formed-False = every-False FormedNode tt
+  formed-False = every-False (PlainFormNode table) tt
 
   formed-neutral : (j : Junction) → IsFormed table (neutral j)
   formed-neutral conjunction = formed-True
@@ -55,12 +45,12 @@ module _ (table : SymbolTable) where
   formed-deciding conjunction = formed-False
   formed-deciding disjunction = formed-True
 
-  long_node : (j : Junction) (all : List FormTree) → 2 ≤ length all → FormedNode (chain_layer j all)
+  long_node : (j : Junction) (all : List FormTree) → 2 ≤ length all → PlainFormNode table (chain_layer j all)
   long_node conjunction all h = h
   long_node disjunction all h = h
 
   opened_case : (j : Junction) (f : FormTree) (gs : List FormTree) → Opened j f gs → IsFormed table f → All (IsFormed table) gs
-  opened_case j f gs (a_chain all e) h = parts-chain FormedNode j all (subst (IsFormed table) e h)
+  opened_case j f gs (a_chain all e) h = parts-chain (PlainFormNode table) j all (subst (IsFormed table) e h)
   opened_case j f gs (single e) h = All-cons (IsFormed table) f [] h (All-nil (IsFormed table))
 
   all_opened : (j : Junction) (fs : List FormTree) → All (IsFormed table) fs → All (λ f. All (IsFormed table) (opened j f)) fs
@@ -69,7 +59,7 @@ module _ (table : SymbolTable) where
   formed-chain_of : (j : Junction) (fs : List FormTree) → All (IsFormed table) fs → IsFormed table (chain_of j fs)
   formed-chain_of j [] h = formed-neutral j
   formed-chain_of j (f ∷ []) h = All-head (IsFormed table) f [] h
-  formed-chain_of j (f ∷ g ∷ fs) h = every-chain FormedNode j (f ∷ g ∷ fs) (long_node j (f ∷ g ∷ fs) (omega arith)) h
+  formed-chain_of j (f ∷ g ∷ fs) h = every-chain (PlainFormNode table) j (f ∷ g ∷ fs) (long_node j (f ∷ g ∷ fs) (omega arith)) h
 
   joined_case : (j : Junction) (fs : List FormTree) (g : FormTree) → Joined j fs g → All (IsFormed table) fs → IsFormed table g
   joined_case j fs g (by_member e) h = formed-deciding j
@@ -79,8 +69,8 @@ module _ (table : SymbolTable) where
   negated_case : (f g : FormTree) → Negated f g → IsFormed table f → IsFormed table g
   negated_case f g (of_true e) h = formed-False
   negated_case f g (of_false e) h = formed-True
-  negated_case f g (of_not a e) h = part-Not FormedNode a (subst (IsFormed table) e h)
-  negated_case f g (shape.kept e) h = every-Not FormedNode f tt h
+  negated_case f g (of_not a e) h = part-Not (PlainFormNode table) a (subst (IsFormed table) e h)
+  negated_case f g (shape.kept e) h = every-Not (PlainFormNode table) f tt h
 
   formed-negated : (f : FormTree) → IsFormed table f → IsFormed table (negated f)
   formed-negated f h = negated_case f (negated f) (negated_is f) h
@@ -91,7 +81,7 @@ module _ (table : SymbolTable) where
   implied_case f g i (right_true e) h k = formed-True
   implied_case f g i (right_false e) h k = formed-negated f h
   implied_case f g i (shape.one e) h k = formed-True
-  implied_case f g i (shape.kept e) h k = every-Implies FormedNode f g tt h k
+  implied_case f g i (shape.kept e) h k = every-Implies (PlainFormNode table) f g tt h k
 
   equated_case : (s t : TermTree) (g : FormTree) → Equated s t g → IsFormed table (form.Equal s t) → IsFormed table g
   equated_case s t g (shape.one e) h = formed-True
@@ -112,9 +102,9 @@ module _ (table : SymbolTable) where
     at_false = λ h. along form.False form.False (fold-False simplified_form_step) h;
     at_atom = λ r args h. along (form.Atom r args) (form.Atom r args) (fold-Atom simplified_form_step r args) h;
     at_equal = λ s t h. along (form.Equal s t) (equated s t) (fold-Equal simplified_form_step s t) (equated_case s t (equated s t) (equated_is s t) h);
-    at_not = λ a stay h. along (view.Not a) (negated (simplified_form a)) (fold-Not simplified_form_step a) (formed-negated (simplified_form a) (stay (part-Not FormedNode a h)));
-    at_chain = λ j all stay h. along (chain j all) (joined j (map simplified_form all)) (simplified_form-chain j all) (joined_case j (map simplified_form all) (joined j (map simplified_form all)) (joined_is j (map simplified_form all)) (parts all stay (parts-chain FormedNode j all h)));
-    at_implies = λ a b stay stay' h. let p = parts-Implies FormedNode a b h in along (view.Implies a b) (implied (simplified_form a) (simplified_form b)) (fold-Implies simplified_form_step a b) (implied_case (simplified_form a) (simplified_form b) (implied (simplified_form a) (simplified_form b)) (implied_is (simplified_form a) (simplified_form b)) (stay p.0) (stay' p.1));
+    at_not = λ a stay h. along (view.Not a) (negated (simplified_form a)) (fold-Not simplified_form_step a) (formed-negated (simplified_form a) (stay (part-Not (PlainFormNode table) a h)));
+    at_chain = λ j all stay h. along (chain j all) (joined j (map simplified_form all)) (simplified_form-chain j all) (joined_case j (map simplified_form all) (joined j (map simplified_form all)) (joined_is j (map simplified_form all)) (parts all stay (parts-chain (PlainFormNode table) j all h)));
+    at_implies = λ a b stay stay' h. let p = parts-Implies (PlainFormNode table) a b h in along (view.Implies a b) (implied (simplified_form a) (simplified_form b)) (fold-Implies simplified_form_step a b) (implied_case (simplified_form a) (simplified_form b) (implied (simplified_form a) (simplified_form b)) (implied_is (simplified_form a) (simplified_form b)) (stay p.0) (stay' p.1));
   }
 
   pub simplified_form-plain : (f : FormTree) → IsPlainForm table f → IsPlainForm table (simplified_form f)
@@ -123,24 +113,14 @@ module _ (table : SymbolTable) where
     sorts = HasOneSortEach-among (form_vars (simplified_form f)) (form_vars f) (simplified_form-vars f) h.sorts;
   }
 
-  -- the sort of what an output gives, by its node
-  abbrev sort_step : Out-F (Option Sort) → Option Sort
-  sort_step (Out-F.Give t) = sort_of table t
-  sort_step (Out-F.If f u v) = u
-
   given_sort-If : (f : FormTree) (u v : OutTree) → given_sort table (out_view.If f u v) ≡ given_sort table u
-  given_sort-If f u v = fold-If sort_step f u v
-
-  -- what is asked of one node of an output
-  abbrev FormedOutNode : Out-F OutTree → Type 0
-  FormedOutNode (Out-F.Give t) = IsSorted table t
-  FormedOutNode (Out-F.If f u v) = IsFormed table f × (given_sort table u ≡ given_sort table v)
+  given_sort-If f u v = fold-If (given_sort_step table) f u v
 
   chosen_case : (f : FormTree) (u v o : OutTree) → Chosen f u v o → IsFormed table f → IsFormedOut table u → IsFormedOut table v → given_sort table u ≡ given_sort table v → IsFormedOut table o × (given_sort table o ≡ given_sort table u)
   chosen_case f u v o (first e) hf hu hv s = (hu, refl)
   chosen_case f u v o (second e) hf hu hv s = (hv, sym s)
   chosen_case f u v o (shape.one e) hf hu hv s = (hu, refl)
-  chosen_case f u v o (shape.kept e) hf hu hv s = (every-If FormedOutNode f u v (hf, s) hu hv, given_sort-If f u v)
+  chosen_case f u v o (shape.kept e) hf hu hv s = (every-If (PlainOutNode table) f u v (hf, s) hu hv, given_sort-If f u v)
 
   abbrev StaysFormedOut : OutTree → Type 0
   StaysFormedOut o = IsFormedOut table o → IsFormedOut table (simplified_out o) × (given_sort table (simplified_out o) ≡ given_sort table o)
@@ -153,8 +133,8 @@ module _ (table : SymbolTable) where
   simplified_out-formed = by_out_cases StaysFormedOut record {
     at_give = λ t h. along_out (out.Give t) (out.Give t) (given_sort table (out.Give t)) (fold-Give simplified_out_step t) refl (h, refl);
     at_if = λ f u v stay stay' h.
-        let p = parts-If FormedOutNode f u v h in
-        let n = node-If FormedOutNode f u v h in
+        let p = parts-If (PlainOutNode table) f u v h in
+        let n = node-If (PlainOutNode table) f u v h in
         let hu = stay p.0 in
         let hv = stay' p.1 in
         let made = chosen_case (simplified_form f) (simplified_out u) (simplified_out v) (chosen (simplified_form f) (simplified_out u) (simplified_out v)) (chosen_is (simplified_form f) (simplified_out u) (simplified_out v)) (simplified_form-formed f n.0) hu.0 hv.0 (hu.1 ∙ (n.1 ∙ sym hv.1)) in
