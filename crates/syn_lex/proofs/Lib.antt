@@ -5,3 +5,4 @@ pub mod Runs
 pub mod Window
 pub mod TokenSteps
 pub mod OneAnswer
+pub mod Spelling

@@ -4,6 +4,8 @@ pub mod Banks
 pub mod Lists
 pub mod NameLaws
 pub mod ReservedLaws
+pub mod BeginsCases
+pub mod OneSpelling
 pub mod NumberLemmas
 pub mod SkolemLemmas
 pub mod SymbolLaws

@@ -170,3 +170,7 @@ pub data Spelled : List ℕ → List Word → Type 0 where
   none_left : (rest : List ℕ) → starts rest ≡ over → Spelled rest []
   past_gap : (rest : List ℕ) (words : List Word) → starts rest ≡ gap → Spelled (drop 1 rest) words → Spelled rest words
   word_then : (rest : List ℕ) (k : TokenKind) (n : ℕ) (words : List Word) → starts rest ≡ token k n → Spelled (drop n rest) words → Spelled rest (record { kind = k; bytes = take n rest } ∷ words)
+
+-- A line is made of one list of words at most.
+abbrev pub OneSpelling : List ℕ → Type 0
+OneSpelling line = (words others : List Word) → Spelled line words → Spelled line others → words ≡ others
