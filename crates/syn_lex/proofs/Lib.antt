@@ -6,3 +6,4 @@ pub mod Window
 pub mod TokenSteps
 pub mod OneAnswer
 pub mod Spelling
+pub mod Whole

@@ -1,8 +1,8 @@
 -- The tokens of a line, by their places, are the words that the line is made of.
-use Rattle.std.proofs.Common.{◌≡◌, ℕ, zero, suc, ◌+◌, ◌-◌, ◌<◌, ◌≤◌, List, [], ◌∷◌, Result, Ok, Err, IfOk, MatchResult, length, take, drop, refl, sym, ◌∙◌, ap, subst, arith, map}
+use Rattle.std.proofs.Common.{◌≡◌, ℕ, zero, suc, ◌+◌, ◌-◌, ◌<◌, ◌≤◌, List, [], ◌∷◌, Result, Ok, Err, IfOk, MatchResult, drop, sym, ◌∙◌, ap, subst, arith}
 use Rattle.std.proofs.lemmas.List.{drop-drop}
 use Rattle.syn_lex.specs.declared.token.Token.{Token}
-use Rattle.syn_term.specs.Tokens.{gap, over, token, starts, Word, Spelled, none_left, past_gap, word_then}
+use Rattle.syn_term.specs.Tokens.{over, starts, Word, Spelled, none_left, past_gap, word_then}
 use Rattle.syn_lex.specs.Lexing.{Blank, Spans, Lexed, words_of}
 
 -- what is spelled behind blanks is spelled from before them on

@@ -1,9 +1,9 @@
 // A line as tokens. The loop asks at each place what begins there, and goes on behind it; so the
 // tokens are in order, only blanks lie between them, and the first place where nothing begins is
 // the one that is answered.
-ghost use Rattle.std.specs.Prelude.{◌≡◌, ◌++◌, ◌∷◌, [], OnOk, IfErr, IfOk, MatchResult};
+ghost use Rattle.std.specs.Prelude.{◌≡◌, ◌++◌, ◌∷◌, [], OnOk, IfErr, IfOk, MatchResult, All};
 ghost use Rattle.syn_term.specs.Tokens.{Spelled, OneSpelling};
-ghost use Rattle.syn_lex.specs.Lexing.{Lexed, Refused, OneAnswer, words_of};
+ghost use Rattle.syn_lex.specs.Lexing.{Lexed, Refused, OneAnswer, words_of, IsWhole};
 
 use crate::begins::starts;
 use crate::token::{LexError, Token, What};
@@ -54,6 +54,7 @@ pub fn tokens(alloc: Global, line: &[u8]) -> Result<Vec<Token>, LexError>
     ensures one { OneAnswer line.now }
     ensures words { IfOk result (λ found. Spelled line.now (words_of line.now found.items)) }
     ensures one_spelling { OneSpelling line.now }
+    ensures each { IfOk result (λ found. All (IsWhole line.now) found.items) }
 {
     scan(alloc, line)
 }

@@ -4,6 +4,15 @@ pub mod Banks
 pub mod Lists
 pub mod NameLaws
 pub mod ReservedLaws
+pub mod Fronts
+pub mod WordRuns
+pub mod NameRuns
+pub mod NumberRuns
+pub mod Cuts
+pub mod RowRuns
+pub mod SkolemRuns
+pub mod SignRuns
+pub mod TokenLaws
 pub mod BeginsCases
 pub mod OneSpelling
 pub mod NumberLemmas

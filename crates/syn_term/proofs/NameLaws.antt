@@ -52,7 +52,7 @@ pub name_nonempty : (n : List ℕ) → IsName n → 0 < length n
 name_nonempty [] named = absurd (subst Starts chars-nil named.starts)
 name_nonempty (b ∷ bs) named = omega arith
 
-first_start : (cs n : List ℕ) → Starts cs → encodes cs ≡ n → 0 < length n → get_or n 0 0 < 128 → is_ascii_alphabetic (get_or n 0 0) ≡ true
+pub first_start : (cs n : List ℕ) → Starts cs → encodes cs ≡ n → 0 < length n → get_or n 0 0 < 128 → is_ascii_alphabetic (get_or n 0 0) ≡ true
 first_start [] n h e some low = absurd h
 first_start (c ∷ cs) n h e some low =
     let same : c ≡ get_or n 0 0 = char_from_byte n (encodes cs) c (sym e) low some in

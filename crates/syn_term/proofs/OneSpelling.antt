@@ -1,7 +1,7 @@
 -- A line is made of one list of words: what begins at its front tells how it goes on.
-use Rattle.std.proofs.Common.{◌≡◌, ℕ, List, [], ◌∷◌, take, drop, refl, sym, ◌∙◌, ap, subst}
+use Rattle.std.proofs.Common.{◌≡◌, ℕ, List, ◌∷◌, take, drop, refl, sym, ◌∙◌, ap, subst}
 use Rattle.syn_term.specs.declared.tokens.TokenKind.{TokenKind}
-use Rattle.syn_term.specs.Tokens.{gap, over, token, starts, Word, Spelled, none_left, past_gap, word_then, OneSpelling}
+use Rattle.syn_term.specs.Tokens.{token, Word, Spelled, none_left, past_gap, word_then, OneSpelling}
 use Rattle.syn_term.proofs.BeginsCases.{gap_token, over_token, over_gap, token_kind, token_length}
 
 abbrev word_at : List ℕ → TokenKind → ℕ → List Word → List Word

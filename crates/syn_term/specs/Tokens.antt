@@ -1,6 +1,6 @@
 -- The grammar of tokens: which bytes are a token of which kind, what begins at a place of a line, and which tokens a line
 -- is made of.
-use Rattle.std.specs.Prelude.{◌≡◌, ℕ, ◌+◌, ◌<◌, ◌^◌, ◌⊎◌, Bool, cond, ◌&&◌, ◌||◌, List, [], ◌∷◌, ◌++◌, Contains, codes, decimal, length, get_or, take, drop, nat_eq, nat_lt}
+use Rattle.std.specs.Prelude.{◌≡◌, ℕ, ◌+◌, ◌<◌, ◌≤◌, ◌^◌, ◌⊎◌, Bool, cond, ◌&&◌, ◌||◌, List, [], ◌∷◌, ◌++◌, Contains, codes, decimal, length, get_or, take, drop, nat_eq, nat_lt}
 use Rattle.std.specs.Char.{encode_utf8, is_ascii_digit}
 use Rattle.std.specs.Str.{byte, chars, bytes_eq}
 use Rattle.std.specs.Str.Lossy.{utf8_valid_len}
@@ -158,6 +158,15 @@ starts rest =
     (cond (is_blank (get_or rest 0 0)) gap
     (cond (nat_eq (get_or rest 0 0) (byte "#")) (comment rest (utf8_valid_len rest))
     (token_at rest (get_or rest 0 0))))
+
+-- A front of so many bytes ends in the middle of a word: the next character would go on with it.
+abbrev pub CutsWord : List ℕ → ℕ → Type 0
+CutsWord rest n = 0 < run_len (front_chars (drop n rest))
+
+-- No longer front of the rest than n bytes is a token of any kind, but a row variable whose sort is cut off in the middle of
+-- a word, as `?1:na` is in `?1:nat`.
+abbrev pub IsLongest : List ℕ → ℕ → Type 0
+IsLongest rest n = (k : TokenKind) (m : ℕ) → n < m → m ≤ length rest → IsToken k (take m rest) → (k ≡ kind.RowVar) × CutsWord rest m
 
 -- A token by itself: its kind and its bytes.
 pub record Word : Type 0 where
