@@ -5,7 +5,9 @@ pub mod Lists
 pub mod NameLaws
 pub mod ReservedLaws
 pub mod Fronts
+pub mod Passes
 pub mod WordRuns
+pub mod ReservedWords
 pub mod NameRuns
 pub mod NumberRuns
 pub mod Cuts

@@ -6,7 +6,8 @@ use Rattle.std.proofs.lemmas.Slice.Eq.{bytes_eq-Decides}
 use Rattle.syn_term.specs.Names.{reserved, IsName, IsTag}
 use Rattle.syn_term.specs.Tokens.{at_most, run_len, word_len, front_chars, name_len, free_name_len, tag_len, is_reserved}
 use Rattle.syn_term.proofs.ReservedLaws.{found, finds}
-use Rattle.syn_term.proofs.WordRuns.{IsWord, name_is_word, word_reach, word_front, within_limit, in_limit, letters_word}
+use Rattle.syn_term.proofs.ReservedWords.{letters_word}
+use Rattle.syn_term.proofs.WordRuns.{IsWord, name_is_word, word_reach, word_front, within_limit, in_limit}
 
 -- what is counted as a name is a word within the limit
 pub record Counted (bs : List ℕ) : Type 0 where

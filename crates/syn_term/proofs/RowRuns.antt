@@ -2,19 +2,13 @@
 use Rattle.std.proofs.Common.{◌≡◌, ℕ, ◌+◌, ◌-◌, ◌<◌, ◌≤◌, ◌⊎◌, inl, inr, Bool, true, false, List, [], ◌∷◌, ◌++◌, cond, nat_eq, length, get_or, take, drop, refl, sym, ◌∙◌, ap, subst, arith, take-add, append-nil, ⊎_elim}
 use Rattle.std.specs.Char.{is_ascii_digit}
 use Rattle.std.proofs.lemmas.List.{length-drop, drop-drop, get_or-drop}
-use Rattle.std.proofs.lemmas.Bool.Decides.{nat_tests}
 use Rattle.syn_term.specs.Names.{IsName, IsNumber}
 use Rattle.syn_term.specs.Tokens.{IsDigits, IsWrittenSort, IsRowVariable, joined, digits, counted_len, free_name_len, sort_len, row_len, run_len, front_chars}
+use Rattle.syn_term.proofs.Passes.{eq_of, eq_is}
 use Rattle.syn_term.proofs.NameLaws.{name_nonempty}
 use Rattle.syn_term.proofs.NameRuns.{free_counted, free_whole}
 use Rattle.syn_term.proofs.NumberRuns.{counted_counted, front_number, number_digits, digits_end}
 use Rattle.syn_term.proofs.Cuts.{cut, joined_some, joined_is, mark_then, first_of_front, none_or_some}
-
-eq_of : (a b : ℕ) → nat_eq a b ≡ true → a ≡ b
-eq_of a b h = grind (arith, nat_tests)
-
-eq_is : (a b : ℕ) → a ≡ b → nat_eq a b ≡ true
-eq_is a b e = grind (arith, nat_tests)
 
 -- what is counted as a sort is nothing, or a colon and a name
 named_sort : (bs : List ℕ) (n : ℕ) → get_or bs 0 0 ≡ 58 → 0 < n → n ≡ free_name_len (drop 1 bs) → IsWrittenSort (take (1 + n) bs) × (1 + n ≤ length bs)

@@ -1,17 +1,14 @@
 -- The Skolem symbol at the front of some bytes: what is counted is one, and none at the front is longer.
 use Rattle.std.proofs.Common.{◌≡◌, ℕ, ◌+◌, ◌-◌, ◌<◌, ◌≤◌, true, false, List, [], ◌∷◌, ◌++◌, cond, nat_eq, length, get_or, take, drop, refl, sym, ◌∙◌, ap, subst, arith, take-add, append_assoc, append-nil}
 use Rattle.std.proofs.lemmas.List.{length-drop, drop-drop}
-use Rattle.std.proofs.lemmas.Bool.Decides.{nat_tests}
 use Rattle.syn_term.specs.Names.{IsTag, IsNumber, IsSkolemName}
 use Rattle.syn_term.specs.Tokens.{IsDigits, joined, digits, counted_len, tag_len, stop_len, skolem_len, run_len, front_chars}
+use Rattle.syn_term.proofs.Passes.{eq_of, some_of}
 use Rattle.syn_term.proofs.NameLaws.{skolem_is}
 use Rattle.syn_term.proofs.WordRuns.{run_at_mark}
 use Rattle.syn_term.proofs.NameRuns.{tag_counted, tag_whole}
 use Rattle.syn_term.proofs.NumberRuns.{counted_counted, front_number, number_digits}
 use Rattle.syn_term.proofs.Cuts.{cut, joined_some, mark_then, first_of_front}
-
-eq_of : (a b : ℕ) → nat_eq a b ≡ true → a ≡ b
-eq_of a b h = grind (arith, nat_tests)
 
 -- where an end is counted, it is a full stop and a number
 record Stop (bs : List ℕ) : Type 0 where
@@ -38,9 +35,6 @@ record Parts (bs : List ℕ) : Type 0 where
   tag : 0 < tag_len (drop 1 bs)
   stop : Stop (drop (1 + tag_len (drop 1 bs)) bs)
   size : skolem_len bs ≡ (1 + tag_len (drop 1 bs)) + stop_len (drop (1 + tag_len (drop 1 bs)) bs)
-
-some_of : (n : ℕ) → nat_eq n 0 ≡ false → 0 < n
-some_of n h = grind (arith, nat_tests)
 
 tagged_parts : (bs : List ℕ) → 0 < skolem_len bs → (0 < tag_len (drop 1 bs)) × (skolem_len bs ≡ joined (1 + tag_len (drop 1 bs)) (stop_len (drop (1 + tag_len (drop 1 bs)) bs)))
 unfolding skolem_len

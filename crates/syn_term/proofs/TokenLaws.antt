@@ -8,19 +8,15 @@ use Rattle.std.proofs.lemmas.Bool.Decides.{nat_tests}
 use Rattle.syn_term.specs.declared.tokens.TokenKind.{TokenKind}
 use Rattle.syn_term.specs.declared.tokens.TokenKind.TheVariants as kind
 use Rattle.syn_term.specs.Tokens.{gap, over, bad, token, IsToken, IsLongest, CutsWord, starts, token_at, some_token, comment, is_blank, number_len, row_len, skolem_len, sign_len, sign_of, is_single_sign, name_len}
+use Rattle.syn_term.proofs.Passes.{some_of, eq_of, eq_is, above}
 use Rattle.syn_term.proofs.BeginsCases.{gap_token, over_token, bad_token, token_kind, token_length}
-use Rattle.syn_term.proofs.WordRuns.{IsWord, name_is_word, reserved_word, word_name, word_first, word_nonempty}
+use Rattle.syn_term.proofs.WordRuns.{IsWord, name_is_word, word_name, word_first, word_nonempty}
+use Rattle.syn_term.proofs.ReservedWords.{reserved_word}
 use Rattle.syn_term.proofs.NameRuns.{name_counted, name_longest}
 use Rattle.syn_term.proofs.NumberRuns.{number_counted, number_first, front_number}
 use Rattle.syn_term.proofs.RowRuns.{row_counted, row_longest, row_first}
 use Rattle.syn_term.proofs.SkolemRuns.{skolem_counted, skolem_longest, skolem_first}
 use Rattle.syn_term.proofs.SignRuns.{sign_counted, sign_longest}
-
-some_of : (n : ℕ) → nat_eq n 0 ≡ false → 0 < n
-some_of n h = grind (arith, nat_tests)
-
-eq_of : (a b : ℕ) → nat_eq a b ≡ true → a ≡ b
-eq_of a b h = grind (arith, nat_tests)
 
 -- a comment is no token
 no_comment : (rest : List ℕ) (v : ℕ) (k : TokenKind) (n : ℕ) → comment rest v ≡ token k n → ⊥
@@ -175,9 +171,6 @@ no_sign b c d l =
     ∙ (ap (λ (z : Bool). cond z (cond (nat_eq c 62) 2 1) (cond (nat_eq b 60 && (nat_eq c 45 && nat_eq d 62)) 3 0)) l.dash
     ∙ ap (λ (z : Bool). cond (z && (nat_eq c 45 && nat_eq d 62)) 3 0) l.less)
 
-eq_is : (a b : ℕ) → a ≡ b → nat_eq a b ≡ true
-eq_is a b e = grind (arith, nat_tests)
-
 no_sign_len : (rest : List ℕ) → Letter (get_or rest 0 0) → nat_eq (sign_len rest) 0 ≡ true
 unfolding sign_len
 no_sign_len rest l = eq_is (sign_of (get_or rest 0 0) (get_or rest 1 0) (get_or rest 2 0)) 0 (no_sign (get_or rest 0 0) (get_or rest 1 0) (get_or rest 2 0) l)
@@ -186,9 +179,6 @@ at_letter : (rest : List ℕ) → Letter (get_or rest 0 0) → token_at rest (ge
 at_letter rest l =
     at_other rest (get_or rest 0 0) l.digit l.row l.skolem
     ∙ ap (λ (z : Bool). cond z (some_token kind.Name (name_len rest)) (token kind.Sign (sign_len rest))) (no_sign_len rest l)
-
-above : (n : ℕ) → 0 < n → nat_eq n 0 ≡ false
-above n h = grind (arith, nat_tests)
 
 -- no longer front is a token of the kind
 name_none : (rest : List ℕ) (j : TokenKind) (n m : ℕ) → token_at rest (get_or rest 0 0) ≡ token j n → n < m → m ≤ length rest → IsWord (take m rest) → ⊥

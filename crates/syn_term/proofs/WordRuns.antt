@@ -1,17 +1,18 @@
 -- The word at the front of some bytes: how long it is, and that no name or reserved word at the front is longer.
-use Rattle.std.proofs.Common.{◌≡◌, ℕ, zero, suc, ◌+◌, ◌<◌, ◌≤◌, ◌⊎◌, inl, inr, ◌&&◌, Bool, true, false, List, [], ◌∷◌, ◌++◌, cond, nat_lt, length, get_or, take, drop, refl, sym, ◌∙◌, ap, subst, arith, IsUtf8, chars, Contains, true≢false}
+use Rattle.std.proofs.Common.{◌≡◌, ℕ, zero, suc, ◌+◌, ◌<◌, ◌≤◌, ◌⊎◌, inl, inr, ◌&&◌, Bool, true, false, List, [], ◌∷◌, ◌++◌, cond, length, get_or, take, drop, refl, sym, ◌∙◌, ap, subst, arith, IsUtf8, chars, Contains, true≢false}
 use Rattle.std.specs.Char.{encode_utf8, is_ascii_alphabetic}
-use Rattle.std.specs.Str.{IsAscii, encode_utf8_all}
+use Rattle.std.specs.Str.{encode_utf8_all}
 use Rattle.std.specs.List.{list_all}
 use Rattle.std.proofs.Math.Utf8.{scalars, scalar}
-use Rattle.std.proofs.lemmas.Str.{IsUtf8-from_ascii, chars-encodes, encodes-append, encodes-chars, scalars-chars, chars-nil, chars-IsAscii, char_from_byte, len_utf8_bounds, length-encode, utf8_valid_len_le}
+use Rattle.std.proofs.lemmas.Str.{chars-encodes, encodes-append, encodes-chars, scalars-chars, chars-nil, char_from_byte, len_utf8_bounds, length-encode, utf8_valid_len_le}
 use Rattle.std.specs.Str.Lossy.{utf8_valid_len}
 use Rattle.std.proofs.lemmas.List.{length-append, length-take-le, take-take, take_at, get_or-take}
 use Rattle.std.proofs.lemmas.Bool.Decides.{nat_tests}
 use Rattle.unicode_ident.specs.Ident.{is_xid_start, is_xid_continue}
-use Rattle.unicode_ident.proofs.IdentLemmas.{is_xid_start-ascii, is_xid_continue-ascii, is_xid_start-is_xid_continue}
+use Rattle.unicode_ident.proofs.IdentLemmas.{is_xid_continue-ascii}
 use Rattle.syn_term.specs.Names.{reserved, Starts, IsName, is_name_byte}
 use Rattle.syn_term.specs.Tokens.{at_most, run_len, word_len, front_chars, is_reserved}
+use Rattle.syn_term.proofs.Passes.{and_parts}
 use Rattle.syn_term.proofs.ReservedLaws.{found, finds}
 use Rattle.syn_term.proofs.NameLaws.{first_start}
 use Rattle.syn_term.proofs.Fronts.{front_text, front_past}
@@ -24,10 +25,6 @@ pub record IsWord (bytes : List ℕ) : Type 0 where
 
 pub name_is_word : (bs : List ℕ) → IsName bs → IsWord bs
 name_is_word bs h = record { text = h.text; starts = h.starts; continues = h.continues }
-
-and_parts : (a b : Bool) → (a && b) ≡ true → (a ≡ true) × (b ≡ true)
-and_parts true b h = (refl, h)
-and_parts false b h = absurd (true≢false (sym h))
 
 -- characters that all continue a name are counted whole
 run_on : (ds es : List ℕ) → list_all is_xid_continue ds ≡ true → run_len (ds ++ es) ≡ length (encode_utf8_all ds) + run_len es
@@ -178,58 +175,3 @@ word_name bs w short =
       | true ↦ (λ e. inr (found reserved bs e))
       | false ↦ (λ e. inl (record { text = w.text; starts = w.starts; continues = w.continues; short = short; free = λ k. true≢false (sym (finds reserved bs k) ∙ e) }))
     ] refl
-
-passes : (p : List ℕ → Bool) (xs : List (List ℕ)) (x : List ℕ) (k : ℕ) → list_all p xs ≡ true → k < length xs → p (get_or xs k x) ≡ true
-passes p [] x k h lt = absurd (omega arith)
-passes p (y ∷ ys) x zero h lt = (and_parts (p y) (list_all p ys) h).0
-passes p (y ∷ ys) x (suc k) h lt = passes p ys x k (and_parts (p y) (list_all p ys) h).1 (omega arith)
-
-letter_low : (b : ℕ) → is_ascii_alphabetic b ≡ true → b < 128
-letter_low b h = grind (arith, nat_tests)
-
-letters_ascii : (bs : List ℕ) → list_all is_ascii_alphabetic bs ≡ true → IsAscii bs
-letters_ascii [] h i = omega arith
-letters_ascii (b ∷ bs) h zero = letter_low b (and_parts (is_ascii_alphabetic b) (list_all is_ascii_alphabetic bs) h).0
-letters_ascii (b ∷ bs) h (suc i) = letters_ascii bs (and_parts (is_ascii_alphabetic b) (list_all is_ascii_alphabetic bs) h).1 i
-
-letter_starts : (b : ℕ) → is_ascii_alphabetic b ≡ true → is_xid_start b ≡ true
-letter_starts b h = is_xid_start-ascii b (letter_low b h) ∙ h
-
-letters_start : (bs : List ℕ) → list_all is_ascii_alphabetic bs ≡ true → 0 < length bs → Starts bs
-letters_start [] h lt = absurd (omega arith)
-letters_start (b ∷ bs) h lt = letter_starts b (and_parts (is_ascii_alphabetic b) (list_all is_ascii_alphabetic bs) h).0
-
-letters_continue : (bs : List ℕ) → list_all is_ascii_alphabetic bs ≡ true → list_all is_xid_continue bs ≡ true
-letters_continue [] h = refl
-letters_continue (b ∷ bs) h =
-    let p = and_parts (is_ascii_alphabetic b) (list_all is_ascii_alphabetic bs) h in
-    ap (λ (z : Bool). z && list_all is_xid_continue bs) (is_xid_start-is_xid_continue b (letter_starts b p.0)) ∙ letters_continue bs p.1
-
--- letters alone are a word
-pub letters_word : (bs : List ℕ) → list_all is_ascii_alphabetic bs ≡ true → 0 < length bs → IsWord bs
-letters_word bs h some =
-    let ascii : IsAscii bs = letters_ascii bs h in
-    let same : bs ≡ chars bs = sym (chars-IsAscii bs ascii) in
-    record {
-      text = IsUtf8-from_ascii bs ascii;
-      starts = subst Starts same (letters_start bs h some);
-      continues = subst (λ (z : List ℕ). list_all is_xid_continue z ≡ true) same (letters_continue bs h);
-    }
-
-short_letters : List ℕ → Bool
-short_letters bs = list_all is_ascii_alphabetic bs && (nat_lt 0 (length bs) && nat_lt (length bs) 65)
-
-lt_of : (a b : ℕ) → nat_lt a b ≡ true → a < b
-lt_of a b h = grind (arith, nat_tests)
-
--- so a reserved word is one, within the limit
-pub reserved_word : (bs : List ℕ) → Contains reserved bs → IsWord bs × (length bs ≤ 64)
-unfolding short_letters
-reserved_word bs h =
-    let all : short_letters (get_or reserved h.0 bs) ≡ true = passes short_letters reserved bs h.0 refl h.1 in
-    let at : short_letters bs ≡ true = subst (λ (z : List ℕ). short_letters z ≡ true) h.2 all in
-    let p = and_parts (list_all is_ascii_alphabetic bs) (nat_lt 0 (length bs) && nat_lt (length bs) 65) at in
-    let q = and_parts (nat_lt 0 (length bs)) (nat_lt (length bs) 65) p.1 in
-    let some : 0 < length bs = lt_of 0 (length bs) q.0 in
-    let few : length bs < 65 = lt_of (length bs) 65 q.1 in
-    (letters_word bs p.0 some, omega arith)
