@@ -2,7 +2,7 @@
 // tokens are in order, only blanks lie between them, and the first place where nothing begins is
 // the one that is answered.
 ghost use Rattle.std.specs.Prelude.{◌≡◌, ◌++◌, ◌∷◌, [], OnOk, IfErr, IfOk, MatchResult, All};
-ghost use Rattle.syn_term.specs.Tokens.{Spelled, OneSpelling};
+ghost use Rattle.syn_term.specs.Tokens.{Spelled, OneSpelling, SpacedWords};
 ghost use Rattle.syn_lex.specs.Lexing.{Lexed, Refused, OneAnswer, words_of, IsWhole};
 
 use crate::begins::starts;
@@ -49,14 +49,16 @@ fn scan(alloc: Global, line: &[u8]) -> Result<Vec<Token>, LexError>
 /// The tokens of a line, in order. Each is one of its kind, and no longer front of what stands at its
 /// place is a token of any kind, but a row variable whose sort would be cut off in the middle of a
 /// word: `?1:nat` is `?1`, `:` and `nat`. Between the tokens lie spaces, tabs and carriage returns,
-/// and behind them at most a comment, which `#` begins. `At(p)` is answered where the byte at `p` is
-/// the first that begins no token, blank or comment.
+/// and behind them at most a comment, which `#` begins. Words that are tokens, written with a space
+/// between, are a line of just these tokens. `At(p)` is answered where the byte at `p` is the first that
+/// begins no token, blank or comment.
 pub fn tokens(alloc: Global, line: &[u8]) -> Result<Vec<Token>, LexError>
     ensures answer { MatchResult result (λ found. Lexed line.now found.items) (Refused line.now) }
     ensures one { OneAnswer line.now }
     ensures words { IfOk result (λ found. Spelled line.now (words_of line.now found.items)) }
     ensures one_spelling { OneSpelling line.now }
     ensures each { IfOk result (λ found. All (IsWhole line.now) found.items) }
+    ensures spaced { SpacedWords }
 {
     scan(alloc, line)
 }

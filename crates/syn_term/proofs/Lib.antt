@@ -15,6 +15,8 @@ pub mod RowRuns
 pub mod SkolemRuns
 pub mod SignRuns
 pub mod TokenLaws
+pub mod TokenBegins
+pub mod Spaced
 pub mod BeginsCases
 pub mod OneSpelling
 pub mod NumberLemmas

@@ -35,7 +35,7 @@ sort_counted bs =
       | false ↦ (λ e. no_sort bs 0 refl)
     ] refl
 
-sort_is : (bs : List ℕ) (n : ℕ) → get_or bs 0 0 ≡ 58 → free_name_len (drop 1 bs) ≡ n → 0 < n → sort_len bs ≡ 1 + n
+pub sort_is : (bs : List ℕ) (n : ℕ) → get_or bs 0 0 ≡ 58 → free_name_len (drop 1 bs) ≡ n → 0 < n → sort_len bs ≡ 1 + n
 unfolding sort_len
 sort_is bs n first e some =
     ap (λ (z : Bool). cond z (joined 1 (free_name_len (drop 1 bs))) 0) (eq_is (get_or bs 0 0) 58 first) ∙ (ap (joined 1) e ∙ joined_is 1 n some)

@@ -112,20 +112,20 @@ unfolding Fits
 is_token rest k n e = let b = begun rest k n e in at_byte rest (get_or rest 0 0) k n refl b.0 b.1
 
 -- the byte that a token of each kind begins with tells that kind
-at_digit : (rest : List ℕ) (b : ℕ) → is_ascii_digit b ≡ true → token_at rest b ≡ some_token kind.Number (number_len rest)
+pub at_digit : (rest : List ℕ) (b : ℕ) → is_ascii_digit b ≡ true → token_at rest b ≡ some_token kind.Number (number_len rest)
 unfolding token_at
 at_digit rest b h =
     ap (λ (z : Bool). cond z (some_token kind.Number (number_len rest)) (cond (nat_eq b 63) (some_token kind.RowVar (row_len rest)) (cond (nat_eq b 33) (some_token kind.Skolem (skolem_len rest)) (cond (nat_eq (sign_len rest) 0) (some_token kind.Name (name_len rest)) (token kind.Sign (sign_len rest)))))) h
 
-at_row : (rest : List ℕ) → token_at rest 63 ≡ some_token kind.RowVar (row_len rest)
+pub at_row : (rest : List ℕ) → token_at rest 63 ≡ some_token kind.RowVar (row_len rest)
 unfolding token_at
 at_row rest = refl
 
-at_skolem : (rest : List ℕ) → token_at rest 33 ≡ some_token kind.Skolem (skolem_len rest)
+pub at_skolem : (rest : List ℕ) → token_at rest 33 ≡ some_token kind.Skolem (skolem_len rest)
 unfolding token_at
 at_skolem rest = refl
 
-at_other : (rest : List ℕ) (b : ℕ) → is_ascii_digit b ≡ false → nat_eq b 63 ≡ false → nat_eq b 33 ≡ false → token_at rest b ≡ cond (nat_eq (sign_len rest) 0) (some_token kind.Name (name_len rest)) (token kind.Sign (sign_len rest))
+pub at_other : (rest : List ℕ) (b : ℕ) → is_ascii_digit b ≡ false → nat_eq b 63 ≡ false → nat_eq b 33 ≡ false → token_at rest b ≡ cond (nat_eq (sign_len rest) 0) (some_token kind.Name (name_len rest)) (token kind.Sign (sign_len rest))
 unfolding token_at
 at_other rest b digit row skolem =
     ap (λ (z : Bool). cond z (some_token kind.Number (number_len rest)) (cond (nat_eq b 63) (some_token kind.RowVar (row_len rest)) (cond (nat_eq b 33) (some_token kind.Skolem (skolem_len rest)) (cond (nat_eq (sign_len rest) 0) (some_token kind.Name (name_len rest)) (token kind.Sign (sign_len rest)))))) digit
@@ -133,13 +133,15 @@ at_other rest b digit row skolem =
     ∙ ap (λ (z : Bool). cond z (some_token kind.Skolem (skolem_len rest)) (cond (nat_eq (sign_len rest) 0) (some_token kind.Name (name_len rest)) (token kind.Sign (sign_len rest)))) skolem)
 
 -- a byte that may be the first of a name begins nothing else
-record Letter (b : ℕ) : Type 0 where
-  digit : is_ascii_digit b ≡ false
-  row : nat_eq b 63 ≡ false
-  skolem : nat_eq b 33 ≡ false
-  single : is_single_sign b ≡ false
-  dash : nat_eq b 45 ≡ false
-  less : nat_eq b 60 ≡ false
+pub record Letter (b : ℕ) : Type 0 where
+  pub digit : is_ascii_digit b ≡ false
+  pub row : nat_eq b 63 ≡ false
+  pub skolem : nat_eq b 33 ≡ false
+  pub single : is_single_sign b ≡ false
+  pub dash : nat_eq b 45 ≡ false
+  pub less : nat_eq b 60 ≡ false
+  pub blank : is_blank b ≡ false
+  pub comment : nat_eq b 35 ≡ false
 
 letter_low : (b : ℕ) → is_ascii_alphabetic b ≡ true → Letter b
 letter_low b h = record {
@@ -149,6 +151,8 @@ letter_low b h = record {
   single = grind (arith, nat_tests);
   dash = grind (arith, nat_tests);
   less = grind (arith, nat_tests);
+  blank = grind (arith, nat_tests);
+  comment = grind (arith, nat_tests);
 }
 
 letter_high : (b : ℕ) → 128 ≤ b → Letter b
@@ -159,9 +163,11 @@ letter_high b h = record {
   single = grind (arith, nat_tests);
   dash = grind (arith, nat_tests);
   less = grind (arith, nat_tests);
+  blank = grind (arith, nat_tests);
+  comment = grind (arith, nat_tests);
 }
 
-letter_of : (bs : List ℕ) → IsWord bs → Letter (get_or bs 0 0)
+pub letter_of : (bs : List ℕ) → IsWord bs → Letter (get_or bs 0 0)
 letter_of bs w =
     ⊎_elim (λ low. letter_low (get_or bs 0 0) (word_first bs w (word_nonempty bs w) low)) (λ high. letter_high (get_or bs 0 0) high) (cases_lt (get_or bs 0 0) 128)
 
@@ -175,7 +181,7 @@ no_sign_len : (rest : List ℕ) → Letter (get_or rest 0 0) → nat_eq (sign_le
 unfolding sign_len
 no_sign_len rest l = eq_is (sign_of (get_or rest 0 0) (get_or rest 1 0) (get_or rest 2 0)) 0 (no_sign (get_or rest 0 0) (get_or rest 1 0) (get_or rest 2 0) l)
 
-at_letter : (rest : List ℕ) → Letter (get_or rest 0 0) → token_at rest (get_or rest 0 0) ≡ some_token kind.Name (name_len rest)
+pub at_letter : (rest : List ℕ) → Letter (get_or rest 0 0) → token_at rest (get_or rest 0 0) ≡ some_token kind.Name (name_len rest)
 at_letter rest l =
     at_other rest (get_or rest 0 0) l.digit l.row l.skolem
     ∙ ap (λ (z : Bool). cond z (some_token kind.Name (name_len rest)) (token kind.Sign (sign_len rest))) (no_sign_len rest l)

@@ -1,6 +1,6 @@
 -- The grammar of tokens: which bytes are a token of which kind, what begins at a place of a line, and which tokens a line
 -- is made of.
-use Rattle.std.specs.Prelude.{◌≡◌, ℕ, ◌+◌, ◌<◌, ◌≤◌, ◌^◌, ◌⊎◌, Bool, cond, ◌&&◌, ◌||◌, List, [], ◌∷◌, ◌++◌, Contains, codes, decimal, length, get_or, take, drop, nat_eq, nat_lt}
+use Rattle.std.specs.Prelude.{◌≡◌, ℕ, ◌+◌, ◌<◌, ◌≤◌, ◌^◌, ◌⊎◌, Bool, cond, ◌&&◌, ◌||◌, List, [], ◌∷◌, ◌++◌, All, Contains, codes, decimal, length, get_or, take, drop, nat_eq, nat_lt}
 use Rattle.std.specs.Char.{encode_utf8, is_ascii_digit}
 use Rattle.std.specs.Str.{byte, chars, bytes_eq}
 use Rattle.std.specs.Str.Lossy.{utf8_valid_len}
@@ -183,3 +183,13 @@ pub data Spelled : List ℕ → List Word → Type 0 where
 -- A line is made of one list of words at most.
 abbrev pub OneSpelling : List ℕ → Type 0
 OneSpelling line = (words others : List Word) → Spelled line words → Spelled line others → words ≡ others
+
+-- The words, one after another, with a space between.
+abbrev pub spaced : List Word → List ℕ
+spaced [] = []
+spaced (word ∷ []) = word.bytes
+spaced (word ∷ next ∷ words) = word.bytes ++ 32 ∷ spaced (next ∷ words)
+
+-- Words that are each a token of its kind, with a space between, are a line that is made of just these words.
+abbrev pub SpacedWords : Type 0
+SpacedWords = (words : List Word) → All (λ word. IsToken word.kind word.bytes) words → Spelled (spaced words) words
