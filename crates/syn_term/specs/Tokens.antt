@@ -163,8 +163,8 @@ starts rest =
 abbrev pub CutsWord : List ℕ → ℕ → Type 0
 CutsWord rest n = 0 < run_len (front_chars (drop n rest))
 
--- No longer front of the rest than n bytes is a token of any kind, but a row variable whose sort is cut off in the middle of
--- a word, as `?1:na` is in `?1:nat`.
+-- No front of the rest that is longer than n bytes is a token of any kind, but a row variable whose sort is cut off in the
+-- middle of a word, as `?1:na` is in `?1:nat`.
 abbrev pub IsLongest : List ℕ → ℕ → Type 0
 IsLongest rest n = (k : TokenKind) (m : ℕ) → n < m → m ≤ length rest → IsToken k (take m rest) → (k ≡ kind.RowVar) × CutsWord rest m
 
