@@ -5,3 +5,5 @@ pub mod Runs
 pub mod Window
 pub mod TokenSteps
 pub mod OneAnswer
+pub mod Spelling
+pub mod Whole

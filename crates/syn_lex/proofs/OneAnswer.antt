@@ -5,34 +5,8 @@ use Rattle.syn_term.specs.declared.tokens.TokenKind.{TokenKind}
 use Rattle.syn_lex.specs.declared.token.Token.{Token}
 use Rattle.syn_term.specs.Tokens.{gap, over, bad, token, starts}
 use Rattle.syn_lex.specs.Lexing.{Blank, Spans, Lexed, Stuck, OneAnswer}
+use Rattle.syn_term.proofs.BeginsCases.{gap_token, over_token, bad_token, over_gap, bad_gap, over_bad, bad_same, token_kind, token_length}
 use Rattle.syn_lex.proofs.OnePlace.{one_place}
-
-gap_token : (k : TokenKind) (n : ℕ) → gap ≡ token k n → ⊥
-gap_token k n e = cc
-
-over_token : (k : TokenKind) (n : ℕ) → over ≡ token k n → ⊥
-over_token k n e = cc
-
-bad_token : (k : TokenKind) (m n : ℕ) → bad m ≡ token k n → ⊥
-bad_token k m n e = cc
-
-over_gap : over ≡ gap → ⊥
-over_gap e = cc
-
-bad_gap : (m : ℕ) → bad m ≡ gap → ⊥
-bad_gap m e = cc
-
-over_bad : (m : ℕ) → over ≡ bad m → ⊥
-over_bad m e = cc
-
-bad_same : (m n : ℕ) → bad m ≡ bad n → m ≡ n
-bad_same m n e = cc
-
-token_kind : (k j : TokenKind) (m n : ℕ) → token k m ≡ token j n → k ≡ j
-token_kind k j m n e = cc
-
-token_length : (k j : TokenKind) (m n : ℕ) → token k m ≡ token j n → m ≡ n
-token_length k j m n e = cc
 
 abbrev NoGap : List ℕ → ℕ → Type 0
 NoGap line p = starts (drop p line) ≡ gap → ⊥

@@ -1,44 +1,16 @@
 -- A part of the line tells how long a name is: the characters that 68 bytes begin with are all those that the rest of the
 -- line begins with, or more than 64 bytes of them.
-use Rattle.std.proofs.Common.{◌≡◌, ℕ, zero, suc, ◌+◌, ◌-◌, ◌<◌, ◌≤◌, ◌⊎◌, inl, inr, true, false, List, [], ◌∷◌, ◌++◌, cond, length, min, take, drop, refl, sym, ◌∙◌, ap, subst, arith, ⊎_elim, IsUtf8, chars, append-nil, true≢false}
+use Rattle.std.proofs.Common.{◌≡◌, ℕ, ◌+◌, ◌-◌, ◌<◌, ◌≤◌, ◌⊎◌, inl, inr, true, false, List, [], ◌∷◌, ◌++◌, cond, length, min, take, drop, refl, sym, ◌∙◌, ap, subst, arith, ⊎_elim, IsUtf8, chars, append-nil}
 use Rattle.std.specs.Char.{encode_utf8, len_utf8}
-use Rattle.std.specs.Str.{is_utf8, encode_utf8_all}
-use Rattle.std.specs.Str.Lossy.{utf8_valid_len, valid_len_up_to}
-use Rattle.std.proofs.lemmas.Str.{IsUtf8-from_is_utf8, is_utf8-from_IsUtf8, IsUtf8-nil, IsUtf8-drop, IsUtf8-take, IsCharBoundary-from_take, IsCharBoundary-past_char, chars-append, encodes-chars, length-encode, len_utf8_bounds, utf8_valid_len_le}
+use Rattle.std.specs.Str.{encode_utf8_all}
+use Rattle.std.specs.Str.Lossy.{utf8_valid_len}
+use Rattle.std.proofs.lemmas.Str.{IsUtf8-drop, IsUtf8-take, IsCharBoundary-from_take, IsCharBoundary-past_char, chars-append, encodes-chars, length-encode, len_utf8_bounds, utf8_valid_len_le}
 use Rattle.std.proofs.lemmas.List.{length-append, length-take, length-take-le, length-drop, take-take, take-append-drop}
 use Rattle.std.proofs.lemmas.Bool.{cases_lt}
 use Rattle.std.proofs.lemmas.Bool.Decides.{nat_tests}
 use Rattle.unicode_ident.specs.Ident.{is_xid_start, is_xid_continue}
 use Rattle.syn_term.specs.Tokens.{run_len, word_len, front_chars, at_most}
-
--- the longest front is a text
-front_of : (bs : List ℕ) (n : ℕ) → IsUtf8 (take (valid_len_up_to bs n) bs)
-front_of bs zero = IsUtf8-nil
-front_of bs (suc n) =
-    elim (is_utf8 (take (suc n) bs)) as (λ z. is_utf8 (take (suc n) bs) ≡ z → IsUtf8 (take (cond z (suc n) (valid_len_up_to bs n)) bs)) [
-      | true ↦ (λ h. IsUtf8-from_is_utf8 (take (suc n) bs) h)
-      | false ↦ (λ h. front_of bs n)
-    ] refl
-
-front_text : (bs : List ℕ) → IsUtf8 (take (utf8_valid_len bs) bs)
-unfolding utf8_valid_len
-front_text bs = front_of bs (length bs)
-
--- and no longer one is
-longest_of : (bs : List ℕ) (n m : ℕ) → m ≤ n → IsUtf8 (take m bs) → m ≤ valid_len_up_to bs n
-longest_of bs zero m le u = omega arith
-longest_of bs (suc n) m le u =
-    elim (is_utf8 (take (suc n) bs)) as (λ z. is_utf8 (take (suc n) bs) ≡ z → m ≤ cond z (suc n) (valid_len_up_to bs n)) [
-      | true ↦ (λ h. le)
-      | false ↦ (λ h. ⊎_elim
-          (λ lt. longest_of bs n m (omega arith) u)
-          (λ ge. let e : m ≡ suc n = omega arith in absurd (true≢false (sym (is_utf8-from_IsUtf8 (take (suc n) bs) (subst (λ (k : ℕ). IsUtf8 (take k bs)) e u)) ∙ h)))
-          (cases_lt m (suc n)))
-    ] refl
-
-longest : (bs : List ℕ) (m : ℕ) → m ≤ length bs → IsUtf8 (take m bs) → m ≤ utf8_valid_len bs
-unfolding utf8_valid_len
-longest bs m le u = longest_of bs (length bs) m le u
+use Rattle.syn_term.proofs.Fronts.{front_text, longest}
 
 -- characters more change nothing, or the first ones are all of the name
 run_in : (ds es : List ℕ) → (run_len (ds ++ es) ≡ run_len ds) ⊎ ((length (encode_utf8_all ds) ≤ run_len ds) × (length (encode_utf8_all ds) ≤ run_len (ds ++ es)))

@@ -1,6 +1,6 @@
 -- The tokens of a line, by their places: which tokens a line has, and which byte is the first that begins nothing.
-use Rattle.std.specs.Prelude.{◌≡◌, ℕ, ◌+◌, ◌-◌, ◌<◌, ◌≤◌, List, [], ◌∷◌, length, drop}
-use Rattle.syn_term.specs.Tokens.{Begins, gap, over, bad, token, starts}
+use Rattle.std.specs.Prelude.{◌≡◌, ℕ, ◌+◌, ◌-◌, ◌<◌, ◌≤◌, List, [], ◌∷◌, length, drop, take, map}
+use Rattle.syn_term.specs.Tokens.{Begins, gap, over, bad, token, starts, Word, IsToken, IsLongest}
 use Rattle.syn_lex.specs.declared.token.Token.{Token}
 use Rattle.syn_lex.specs.declared.token.What.{What}
 use Rattle.syn_lex.specs.declared.token.What.TheVariants as what
@@ -49,3 +49,20 @@ pub record OneAnswer (line : List ℕ) : Type 0 where
   pub tokens : (ts us : List Token) → Lexed line ts → Lexed line us → ts ≡ us
   pub apart : (ts : List Token) (p : ℕ) → Lexed line ts → Stuck line p → ⊥
   pub place : (p q : ℕ) → Stuck line p → Stuck line q → p ≡ q
+
+-- The bytes of a token in its line.
+abbrev pub bytes_of : List ℕ → Token → List ℕ
+bytes_of line t = take (t.to - t.from) (drop t.from line)
+
+-- A token by itself, as a word of the line: its kind and its bytes.
+abbrev pub word_of : List ℕ → Token → Word
+word_of line t = record { kind = t.kind; bytes = bytes_of line t }
+
+-- The tokens as words of the line.
+abbrev pub words_of : List ℕ → List Token → List Word
+words_of line = map (word_of line)
+
+-- The bytes of the token are a token of its kind, and the longest at its place.
+pub record IsWhole (line : List ℕ) (t : Token) : Type 0 where
+  pub token : IsToken t.kind (bytes_of line t)
+  pub longest : IsLongest (drop t.from line) (t.to - t.from)

@@ -1,8 +1,9 @@
 // A line as tokens. The loop asks at each place what begins there, and goes on behind it; so the
 // tokens are in order, only blanks lie between them, and the first place where nothing begins is
 // the one that is answered.
-ghost use Rattle.std.specs.Prelude.{◌≡◌, ◌++◌, ◌∷◌, [], OnOk, IfErr, MatchResult};
-ghost use Rattle.syn_lex.specs.Lexing.{Lexed, Refused, OneAnswer};
+ghost use Rattle.std.specs.Prelude.{◌≡◌, ◌++◌, ◌∷◌, [], OnOk, IfErr, IfOk, MatchResult, All};
+ghost use Rattle.syn_term.specs.Tokens.{Spelled, OneSpelling, SpacedWords};
+ghost use Rattle.syn_lex.specs.Lexing.{Lexed, Refused, OneAnswer, words_of, IsWhole};
 
 use crate::begins::starts;
 use crate::token::{LexError, Token, What};
@@ -45,12 +46,19 @@ fn scan(alloc: Global, line: &[u8]) -> Result<Vec<Token>, LexError>
     Ok(found)
 }
 
-/// The tokens of a line, in order, each the longest at its place. Between them lie spaces, tabs and
-/// carriage returns, and behind them at most a comment, which `#` begins. `At(p)` is answered where
-/// the byte at `p` is the first that begins no token, blank or comment.
+/// The tokens of a line, in order. Each is one of its kind, and no longer front of what stands at its
+/// place is a token of any kind, but a row variable whose sort would be cut off in the middle of a
+/// word: `?1:nat` is `?1`, `:` and `nat`. Between the tokens lie spaces, tabs and carriage returns,
+/// and behind them at most a comment, which `#` begins. Words that are tokens, written with a space
+/// between, are a line of just these tokens. `At(p)` is answered where the byte at `p` is the first that
+/// begins no token, blank or comment.
 pub fn tokens(alloc: Global, line: &[u8]) -> Result<Vec<Token>, LexError>
     ensures answer { MatchResult result (λ found. Lexed line.now found.items) (Refused line.now) }
     ensures one { OneAnswer line.now }
+    ensures words { IfOk result (λ found. Spelled line.now (words_of line.now found.items)) }
+    ensures one_spelling { OneSpelling line.now }
+    ensures each { IfOk result (λ found. All (IsWhole line.now) found.items) }
+    ensures spaced { SpacedWords }
 {
     scan(alloc, line)
 }
@@ -77,11 +85,17 @@ mod tests {
 
     #[test]
     fn tells_tokens(rt: HostRuntime) -> Result<(), Fail> {
-        let cases: [(&str, &str); 29] = [
+        let cases: [(&str, &str); 32] = [
             ("?1:L", "RowVar 0-4;"),
             ("?0", "at 0"),
             ("?01", "at 0"),
             ("?1:nat", "RowVar 0-2;Sign 2-3;Name 3-6;"),
+            ("?1:na", "RowVar 0-5;"),
+            ("?1:s", "RowVar 0-2;Sign 2-3;Name 3-4;"),
+            (
+                "?1:a23456789_123456789_123456789_123456789_123456789_123456789_12345",
+                "at 3",
+            ),
             ("?1:", "RowVar 0-2;Sign 2-3;"),
             ("?12345678", "at 0"),
             ("!gap.1", "Skolem 0-6;"),

@@ -1,6 +1,6 @@
 -- What the bytes of a name are. A byte below 128 is a character of its own, so it is told by what the two properties say
 -- of ASCII; a byte from 128 on is part of another character, and none of the marks that texts use is such a byte.
-use Rattle.std.proofs.Common.{◌≡◌, ℕ, zero, suc, ◌<◌, ◌^◌, ◌⊎◌, ◌++◌, ◌&&◌, Bool, true, false, not, List, [], ◌∷◌, All, length, get_or, sym, ◌∙◌, ap, subst, refl, inl, inr, arith, ⊎_elim, append_assoc, true≢false}
+use Rattle.std.proofs.Common.{◌≡◌, ℕ, zero, suc, ◌<◌, ◌^◌, ◌⊎◌, ◌++◌, Bool, true, false, not, List, [], ◌∷◌, All, length, get_or, sym, ◌∙◌, ap, subst, refl, inl, inr, arith, ⊎_elim, append_assoc, true≢false}
 use Rattle.std.specs.Char.{is_ascii_alphabetic}
 use Rattle.std.specs.Str.{NonePass, chars}
 use Rattle.std.specs.List.{list_all}
@@ -15,11 +15,8 @@ use Rattle.std.proofs.lemmas.Bool.Decides.{nat_tests}
 use Rattle.unicode_ident.specs.Ident.{is_xid_start, is_xid_continue}
 use Rattle.unicode_ident.proofs.IdentLemmas.{is_xid_start-ascii, is_xid_continue-ascii}
 use Rattle.std.proofs.lemmas.Bool.{cases_lt}
+use Rattle.syn_term.proofs.Passes.{and_parts}
 use Rattle.syn_term.specs.Names.{IsName, IsTag, IsNumber, IsSkolemName, Starts, is_name_byte}
-
-and_parts : (a b : Bool) → (a && b) ≡ true → (a ≡ true) × (b ≡ true)
-and_parts true b h = (refl, h)
-and_parts false b h = absurd (true≢false (sym h))
 
 from_not : (a : Bool) → not a ≡ false → a ≡ true
 from_not true h = refl
@@ -52,7 +49,7 @@ pub name_nonempty : (n : List ℕ) → IsName n → 0 < length n
 name_nonempty [] named = absurd (subst Starts chars-nil named.starts)
 name_nonempty (b ∷ bs) named = omega arith
 
-first_start : (cs n : List ℕ) → Starts cs → encodes cs ≡ n → 0 < length n → get_or n 0 0 < 128 → is_ascii_alphabetic (get_or n 0 0) ≡ true
+pub first_start : (cs n : List ℕ) → Starts cs → encodes cs ≡ n → 0 < length n → get_or n 0 0 < 128 → is_ascii_alphabetic (get_or n 0 0) ≡ true
 first_start [] n h e some low = absurd h
 first_start (c ∷ cs) n h e some low =
     let same : c ≡ get_or n 0 0 = char_from_byte n (encodes cs) c (sym e) low some in

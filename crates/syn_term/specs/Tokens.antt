@@ -1,6 +1,6 @@
 -- The grammar of tokens: which bytes are a token of which kind, what begins at a place of a line, and which tokens a line
 -- is made of.
-use Rattle.std.specs.Prelude.{◌≡◌, ℕ, ◌+◌, ◌<◌, ◌^◌, ◌⊎◌, Bool, cond, ◌&&◌, ◌||◌, List, [], ◌∷◌, ◌++◌, Contains, codes, decimal, length, get_or, take, drop, nat_eq, nat_lt}
+use Rattle.std.specs.Prelude.{◌≡◌, ℕ, ◌+◌, ◌<◌, ◌≤◌, ◌^◌, ◌⊎◌, Bool, cond, ◌&&◌, ◌||◌, List, [], ◌∷◌, ◌++◌, All, Contains, codes, decimal, length, get_or, take, drop, nat_eq, nat_lt}
 use Rattle.std.specs.Char.{encode_utf8, is_ascii_digit}
 use Rattle.std.specs.Str.{byte, chars, bytes_eq}
 use Rattle.std.specs.Str.Lossy.{utf8_valid_len}
@@ -159,6 +159,15 @@ starts rest =
     (cond (nat_eq (get_or rest 0 0) (byte "#")) (comment rest (utf8_valid_len rest))
     (token_at rest (get_or rest 0 0))))
 
+-- A front of so many bytes ends in the middle of a word: the next character would go on with it.
+abbrev pub CutsWord : List ℕ → ℕ → Type 0
+CutsWord rest n = 0 < run_len (front_chars (drop n rest))
+
+-- No front of the rest that is longer than n bytes is a token of any kind, but a row variable whose sort is cut off in the
+-- middle of a word, as `?1:na` is in `?1:nat`.
+abbrev pub IsLongest : List ℕ → ℕ → Type 0
+IsLongest rest n = (k : TokenKind) (m : ℕ) → n < m → m ≤ length rest → IsToken k (take m rest) → (k ≡ kind.RowVar) × CutsWord rest m
+
 -- A token by itself: its kind and its bytes.
 pub record Word : Type 0 where
   pub kind : TokenKind
@@ -170,3 +179,17 @@ pub data Spelled : List ℕ → List Word → Type 0 where
   none_left : (rest : List ℕ) → starts rest ≡ over → Spelled rest []
   past_gap : (rest : List ℕ) (words : List Word) → starts rest ≡ gap → Spelled (drop 1 rest) words → Spelled rest words
   word_then : (rest : List ℕ) (k : TokenKind) (n : ℕ) (words : List Word) → starts rest ≡ token k n → Spelled (drop n rest) words → Spelled rest (record { kind = k; bytes = take n rest } ∷ words)
+
+-- A line is made of one list of words at most.
+abbrev pub OneSpelling : List ℕ → Type 0
+OneSpelling line = (words others : List Word) → Spelled line words → Spelled line others → words ≡ others
+
+-- The words, one after another, with a space between.
+abbrev pub spaced : List Word → List ℕ
+spaced [] = []
+spaced (word ∷ []) = word.bytes
+spaced (word ∷ next ∷ words) = word.bytes ++ 32 ∷ spaced (next ∷ words)
+
+-- Words that are each a token of its kind, with a space between, are a line that is made of just these words.
+abbrev pub SpacedWords : Type 0
+SpacedWords = (words : List Word) → All (λ word. IsToken word.kind word.bytes) words → Spelled (spaced words) words
