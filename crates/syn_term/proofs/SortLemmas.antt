@@ -1,6 +1,6 @@
 -- What stays as sorts are declared and symbols are added: names are distinct, and what is kept beside the lists fits them.
 use Rattle.std.proofs.Math.Dec.{leb}
-use Rattle.std.proofs.Common.{◌≡◌, ◌≢◌, ◌↔◌, IsTrue, ℕ, zero, suc, ◌+◌, ◌-◌, min, ◌<◌, ◌≤◌, ◌^◌, ◌⊎◌, Bool, true, false, List, [], ◌∷◌, ◌++◌, Option, Some, None, All, Any, Contains, String, codes, string_bytes, fold, length, get_or, map, position, slice_get, sym, ◌∙◌, ap, subst, refl, ⊎_elim, inl, inr, arith, length-append, true≢false}
+use Rattle.std.proofs.Common.{◌≡◌, ◌≢◌, ◌↔◌, IsTrue, ℕ, zero, suc, ◌+◌, ◌-◌, min, ◌<◌, ◌≤◌, ◌^◌, ◌⊎◌, Bool, true, false, List, [], ◌∷◌, ◌++◌, Option, Some, None, Any, Contains, String, codes, string_bytes, length, get_or, map, position, slice_get, sym, ◌∙◌, ap, subst, refl, ⊎_elim, inl, inr, arith, length-append, true≢false}
 use Rattle.std.specs.Option.{option_map}
 use Rattle.std.specs.List.{position_or_len, sum_by}
 use Rattle.std.specs.Str.{bytes_eq}
@@ -22,10 +22,10 @@ use Rattle.syn_term.specs.declared.sorts.Shape.{Shape}
 use Rattle.syn_term.specs.declared.sorts.Sort.{Sort}
 use Rattle.syn_term.specs.declared.sorts.Sort.TheVariants.{Nat, Named}
 use Rattle.syn_term.specs.declared.sorts.Sym.{Sym}
-use Rattle.syn_term.specs.Names.{IsName, IsSkolemName, reserved}
+use Rattle.syn_term.specs.Names.{IsName, IsSkolemName}
 use Rattle.syn_term.specs.Symbols.{SymbolTable, FitsName, IsTaken, MayAdd, names_of, with_symbol}
 use Rattle.syn_term.specs.DeclaredSorts.{HasDistinctSorts, default_size, default_sizes, name_of_sort, shape_size, size_in, with_sort}
-use Rattle.syn_term.specs.SymbolKeys.{IsKeyed, IsKept, IsNew}
+use Rattle.syn_term.specs.SymbolKeys.{IsKept, IsNew}
 use Rattle.syn_term.proofs.KeyLemmas.{none_named, some_named, entry_last, keyed_more, symbol_last}
 use Rattle.syn_term.proofs.NameLaws.{skolem_is}
 

@@ -376,3 +376,87 @@ impl Symbols {
         }
     }
 }
+
+#[cfg(test)]
+mod tests {
+    use super::*;
+    use std::test::Fail;
+
+    // What a new table answers to the list sort.
+    fn list(alloc: Global, names: [&str; 3], item: Sort) -> Result<Option<Sort>, NoMemory> {
+        Symbols::new(alloc)?.add_list(names[0], names[1], names[2], item)
+    }
+
+    // What a table with a list sort answers to another, and when asked for the sort.
+    fn lists(alloc: Global, name: &str, nil: &str) -> Result<[Option<Sort>; 2], NoMemory> {
+        let mut table = Symbols::new(alloc)?;
+        table.add_list("nats", "nil", "cons", Sort::Nat)?;
+        let second = table.add_list(name, nil, "more", Sort::Named(0))?;
+        Ok([second, table.find_sort(name)])
+    }
+
+    // What the table answers to the sort of tuples with so many parts of one sort, and a last part.
+    fn tuple(
+        table: &mut Symbols,
+        name: &str,
+        make: &str,
+        parts: (usize, Sort),
+        last: Sort,
+    ) -> Result<Option<Sort>, NoMemory> {
+        let mut all = Items::new(*table.by_name.allocator());
+        for _ in 0..parts.0 {
+            all.push(parts.1)?;
+        }
+        all.push(last)?;
+        table.add_tuple(name, make, all.as_slice())
+    }
+
+    #[test]
+    fn declares_lists(rt: HostRuntime) -> Result<(), Fail> {
+        let alloc = rt.alloc();
+        let nats = Some(Sort::Named(0));
+        for (names, item, wanted) in [
+            (["l", "nil", "cons"], Sort::Nat, nats),
+            (["nat", "nil", "cons"], Sort::Nat, None),
+            (["l", "l", "cons"], Sort::Nat, None),
+            (["l", "nil", "nil"], Sort::Nat, None),
+            (["l", "nil", "cons"], Sort::Named(0), None),
+        ] {
+            assert_eq!(rt; list(alloc, names, item)?, wanted);
+        }
+        assert_eq!(rt; lists(alloc, "nats", "none")?, [None, nats]);
+        assert_eq!(rt; lists(alloc, "rows", "nil")?, [None, None]);
+        assert_eq!(rt; lists(alloc, "rows", "none")?, [Some(Sort::Named(1)); 2]);
+        Ok(())
+    }
+
+    // The default terms of quad, big and full have 5, 21 and 64 nodes.
+    #[test]
+    fn declares_tuples(rt: HostRuntime) -> Result<(), Fail> {
+        let nat = Sort::Nat;
+        let (quad, big, full) = (Sort::Named(0), Sort::Named(1), Sort::Named(2));
+        let mut table = Symbols::new(rt.alloc())?;
+        for (name, make, parts, last, wanted) in [
+            ("quad", "q", (0, nat), nat, None),
+            ("quad", "q", (4, nat), nat, None),
+            ("quad", "quad", (3, nat), nat, None),
+            ("quad", "q", (3, nat), nat, Some(quad)),
+            ("big", "b", (3, quad), quad, Some(big)),
+            ("full", "f", (3, big), nat, None),
+            ("full", "f", (2, big), big, Some(full)),
+        ] {
+            assert_eq!(rt; tuple(&mut table, name, make, parts, last)?, wanted);
+        }
+        Ok(())
+    }
+
+    #[test]
+    fn shows_sorts(rt: HostRuntime) -> Result<(), Fail> {
+        let table = Symbols::new(rt.alloc())?;
+        assert_eq!(rt; table.find_sort("nat"), Some(Sort::Nat));
+        assert_eq!(rt; table.sort_name(Sort::Nat), Some("nat"));
+        assert!(rt; matches!(table.shape(Sort::Nat), Some(Shape::Nat)));
+        assert!(rt; table.shape(Sort::Named(0)).is_none());
+        Ok(())
+    }
+}
