@@ -1,4 +1,4 @@
-use Rattle.std.proofs.Common.{◌∙◌, ap, sym}
+use Rattle.std.proofs.Common.{◌∙◌, ap}
 use Rattle.syn_term.proofs.SortLemmas.{no_sort, sort_at_place}
 use Rattle.syn_term.proofs.symbols.Symbols.find_sort.Goals as goal
 

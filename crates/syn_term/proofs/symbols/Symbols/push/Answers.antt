@@ -1,6 +1,5 @@
 use Rattle.std.proofs.Common.{◌∙◌, ap, subst, length, arith, sym}
 use Rattle.std.proofs.lemmas.List.{length-map}
-use Rattle.syn_term.specs.DeclaredSorts.{HasDistinctSorts}
 use Rattle.syn_term.specs.SymbolKeys.{IsNew}
 use Rattle.syn_term.specs.Symbols.{with_symbol}
 use Rattle.syn_term.proofs.KeyLemmas.{distinct_table}
