@@ -50,7 +50,7 @@ impl Form {
     }
 
     /// The k-th child, counted from 1; None exactly where there is none.
-    fn child(&self, k: u32) -> Option<Part<'_>>
+    pub(crate) fn child(&self, k: u32) -> Option<Part<'_>>
         ensures { option_map seen result ≡ part_at (formula self.now) k }
     {
         if k == 0 {

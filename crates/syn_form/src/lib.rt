@@ -6,6 +6,8 @@
 
 mod form;
 mod output;
+mod signs;
 mod trees;
 
+pub use signs::polarity;
 pub use trees::{Binder, Form, Mono, Out, Part, QForm, Side};
