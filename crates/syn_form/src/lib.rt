@@ -7,6 +7,8 @@
 mod form;
 mod output;
 mod signs;
+#[cfg(test)]
+mod tests;
 mod trees;
 
 pub use signs::polarity;
