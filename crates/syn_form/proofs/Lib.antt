@@ -16,3 +16,4 @@ pub mod Chains
 pub mod Owned
 pub mod Sameness
 pub mod Fewer
+pub mod SignLaws

@@ -3,6 +3,7 @@ pub mod Same
 pub mod Positions
 pub mod Sorts
 pub mod Plain
+pub mod PlainQuantified
 pub mod Substitutions
 pub mod Simplification
 pub mod Truth

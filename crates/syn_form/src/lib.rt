@@ -6,9 +6,13 @@
 
 mod form;
 mod output;
+mod signs;
 mod syntax;
+#[cfg(test)]
+mod tests;
 mod trees;
 
+pub use signs::polarity;
 pub use syntax::{
     BinderSyntax, FormSyntax, HeadName, Lexeme, Mark, OutSyntax, Quantifier, TermSyntax,
 };
