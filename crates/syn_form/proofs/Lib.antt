@@ -5,3 +5,8 @@ pub mod Inductions
 pub mod Lists
 pub mod Shapes
 pub mod SimplifiedTerms
+pub mod Depths
+pub mod Chains
+pub mod Owned
+pub mod Sameness
+pub mod Fewer

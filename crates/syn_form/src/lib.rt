@@ -4,6 +4,7 @@
 //! the crates above.
 #![tactic(auto)]
 
+mod form;
 mod trees;
 
 pub use trees::{Binder, Form, Mono, Out, Part, QForm, Side};

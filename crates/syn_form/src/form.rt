@@ -1,0 +1,302 @@
+// The calls on formulas. A part of a formula is answered as a reference, and takes no memory.
+ghost use Rattle.std.specs.Prelude.{◌≡◌, ◌↔◌, ◌+◌, ◌++◌, max, min, map, sum, slice_get, IfOk, IsTrue};
+ghost use Rattle.std.specs.Option.{option_map};
+ghost use Rattle.syn_term.specs.Terms.{bare, depth_of, greatest, nodes};
+ghost use Rattle.syn_form.specs.Positions.{formula, part_at, parts_of, piece_at, seen, term};
+ghost use Rattle.syn_form.specs.Same.{OfOneBank};
+ghost use Rattle.syn_form.specs.Trees.{all_of, bare_form, form_depth, form_nodes, form_terms};
+
+use crate::trees::{Form, Part};
+use sqlite_items::at;
+use syn_term::{NoMemory, Pos, Term};
+
+impl Form {
+    /// The same formula once more. It takes no memory; the one error, NoMemory, is that a pointer's
+    /// count of owners is at its end.
+    pub fn again(&self) -> Result<Form, NoMemory>
+        ensures { IfOk result (λ g. g ≡ self.now) }
+    {
+        match self {
+            Form::True => Ok(Form::True),
+            Form::False => Ok(Form::False),
+            Form::Atom(r, args) => Ok(Form::Atom(*r, args.again()?)),
+            Form::Equal(s, t) => Ok(Form::Equal(s.again()?, t.again()?)),
+            Form::Not(a) => Ok(Form::Not(a.again()?)),
+            Form::And(all) => Ok(Form::And(all.again()?)),
+            Form::Or(all) => Ok(Form::Or(all.again()?)),
+            Form::Implies(a, b) => Ok(Form::Implies(a.again()?, b.again()?)),
+        }
+    }
+
+    /// What stands at the position, None exactly where the formula has no such position.
+    pub fn at(&self, p: &Pos) -> Option<Part<'_>>
+        ensures { option_map seen result ≡ piece_at p.now (formula self.now) }
+    {
+        self.find(p.as_slice())
+    }
+
+    /// What stands at the end of the path.
+    fn find(&self, path: &[u32]) -> Option<Part<'_>>
+        ensures { option_map seen result ≡ piece_at path.now (formula self.now) }
+    {
+        match path {
+            [] => Some(Part::F(self)),
+            [k, rest @ ..] => match self.child(*k) {
+                None => None,
+                Some(Part::F(f)) => f.find(rest),
+                Some(Part::T(t)) => find_in_term(t, rest),
+            },
+        }
+    }
+
+    /// The k-th child, counted from 1; None exactly where there is none.
+    fn child(&self, k: u32) -> Option<Part<'_>>
+        ensures { option_map seen result ≡ part_at (formula self.now) k }
+    {
+        if k == 0 {
+            None
+        } else {
+            self.nth_part(k as usize - 1)
+        }
+    }
+
+    /// The child with `index` children before it.
+    fn nth_part(&self, index: usize) -> Option<Part<'_>>
+        ensures { option_map seen result ≡ slice_get (parts_of (formula self.now)) index }
+    {
+        match self {
+            Form::True | Form::False => None,
+            Form::Atom(_, args) => nth_term(args.get().as_slice(), index),
+            Form::Equal(s, t) => match index {
+                0 => Some(Part::T(s)),
+                1 => Some(Part::T(t)),
+                _ => None,
+            },
+            Form::Not(a) => match index {
+                0 => Some(Part::F(a.get())),
+                _ => None,
+            },
+            Form::And(all) | Form::Or(all) => nth_form(all.get().as_slice(), index),
+            Form::Implies(a, b) => match index {
+                0 => Some(Part::F(a.get())),
+                1 => Some(Part::F(b.get())),
+                _ => None,
+            },
+        }
+    }
+
+    /// The number of nodes, or `cap + 1` where there are more than `cap`. A part that is shared
+    /// counts as often as it stands in the formula.
+    pub fn size(&self, cap: u32) -> u64
+        ensures { result ≡ min (form_nodes self.now) (cap + 1) }
+    {
+        match self {
+            Form::True | Form::False => 1,
+            Form::Atom(_, args) => with_terms(args.get().as_slice(), cap),
+            Form::Equal(s, t) => with_two_terms(s, t, cap),
+            Form::Not(a) => {
+                if cap == 0 {
+                    return 1;
+                }
+                1 + a.get().size(cap - 1)
+            }
+            Form::And(all) | Form::Or(all) => {
+                let mut total: u64 = 1;
+                for part in all.get().as_slice() {
+                    if total > u64::from(cap) {
+                        return total;
+                    }
+                    total += part.size(cap - total as u32);
+                }
+                total
+            }
+            Form::Implies(a, b) => {
+                if cap == 0 {
+                    return 1;
+                }
+                let total = 1 + a.get().size(cap - 1);
+                if total > u64::from(cap) {
+                    return total;
+                }
+                total + b.get().size(cap - total as u32)
+            }
+        }
+    }
+
+    /// The depth, or `cap + 1` where it is more than `cap`; `true` and `false` have depth 1.
+    pub fn depth(&self, cap: u32) -> u64
+        ensures { result ≡ min (form_depth self.now) (cap + 1) }
+    {
+        match self {
+            Form::True | Form::False => 1,
+            Form::Atom(_, args) => over_terms(args.get().as_slice(), cap),
+            Form::Equal(s, t) => {
+                if cap == 0 {
+                    return 1;
+                }
+                1 + greater(s.depth(cap - 1), t.depth(cap - 1))
+            }
+            Form::Not(a) => {
+                if cap == 0 {
+                    return 1;
+                }
+                1 + a.get().depth(cap - 1)
+            }
+            Form::And(all) | Form::Or(all) => {
+                if cap == 0 {
+                    return 1;
+                }
+                let mut deepest = 0;
+                for part in all.get().as_slice() {
+                    deepest = greater(deepest, part.depth(cap - 1));
+                }
+                1 + deepest
+            }
+            Form::Implies(a, b) => {
+                if cap == 0 {
+                    return 1;
+                }
+                1 + greater(a.get().depth(cap - 1), b.get().depth(cap - 1))
+            }
+        }
+    }
+
+    /// Whether the two are one tree. It asks that their terms are of one bank.
+    #[cycle(same)]
+    pub fn same(&self, other: &Form) -> bool
+        requires { OfOneBank (form_terms self.now ++ form_terms other.now) }
+        ensures { IsTrue result ↔ (bare_form self.now ≡ bare_form other.now) }
+    {
+        match (self, other) {
+            (Form::True, Form::True) | (Form::False, Form::False) => true,
+            (Form::Atom(r, xs), Form::Atom(q, ys)) => {
+                *r == *q && same_terms(xs.get().as_slice(), ys.get().as_slice())
+            }
+            (Form::Equal(s, t), Form::Equal(u, v)) => s.same(u) && t.same(v),
+            (Form::Not(a), Form::Not(b)) => a.get().same(b.get()),
+            (Form::And(xs), Form::And(ys)) => {
+                same_forms(xs.get().as_slice(), ys.get().as_slice())
+            }
+            (Form::Or(xs), Form::Or(ys)) => { same_forms(xs.get().as_slice(), ys.get().as_slice()) }
+            (Form::Implies(a, b), Form::Implies(c, d)) => {
+                a.get().same(c.get()) && b.get().same(d.get())
+            }
+            _ => false,
+        }
+    }
+}
+
+/// Whether the two lists have the same formulas, one by one.
+#[cycle(same)]
+fn same_forms(xs: &[Form], ys: &[Form]) -> bool
+    requires { OfOneBank (all_of (map form_terms xs.now) ++ all_of (map form_terms ys.now)) }
+    ensures { IsTrue result ↔ (map bare_form xs.now ≡ map bare_form ys.now) }
+{
+    if xs.len() != ys.len() {
+        return false;
+    }
+    for i in 0..xs.len() {
+        if !xs[i].same(&ys[i]) {
+            return false;
+        }
+    }
+    true
+}
+
+/// Whether the two lists have the same terms, one by one.
+fn same_terms(xs: &[Term], ys: &[Term]) -> bool
+    requires { OfOneBank (xs.now ++ ys.now) }
+    ensures { IsTrue result ↔ (map bare xs.now ≡ map bare ys.now) }
+{
+    if xs.len() != ys.len() {
+        return false;
+    }
+    for i in 0..xs.len() {
+        if !xs[i].same(&ys[i]) {
+            return false;
+        }
+    }
+    true
+}
+
+/// The term with `index` terms before it.
+fn nth_term(terms: &[Term], index: usize) -> Option<Part<'_>>
+    ensures { option_map seen result ≡ slice_get (map term terms.now) index }
+{
+    match at(terms, index) {
+        None => None,
+        Some(t) => Some(Part::T(t)),
+    }
+}
+
+/// The formula with `index` formulas before it.
+fn nth_form(forms: &[Form], index: usize) -> Option<Part<'_>>
+    ensures { option_map seen result ≡ slice_get (map formula forms.now) index }
+{
+    match at(forms, index) {
+        None => None,
+        Some(f) => Some(Part::F(f)),
+    }
+}
+
+/// What stands at the end of the path in the term.
+fn find_in_term<'a>(t: &'a Term, path: &[u32]) -> Option<Part<'a>>
+    ensures { option_map seen result ≡ piece_at path.now (term t.now) }
+{
+    match path {
+        [] => Some(Part::T(t)),
+        [k, rest @ ..] => match t.arg(*k) {
+            None => None,
+            Some(arg) => find_in_term(arg, rest),
+        },
+    }
+}
+
+/// One node and those of the terms, or `cap + 1` where these are more than `cap`.
+fn with_terms(terms: &[Term], cap: u32) -> u64
+    ensures { result ≡ min (1 + sum (map nodes terms.now)) (cap + 1) }
+{
+    let mut total: u64 = 1;
+    for t in terms {
+        if total > u64::from(cap) {
+            return total;
+        }
+        total += t.size(cap - total as u32);
+    }
+    total
+}
+
+/// One node and those of both terms, or `cap + 1` where these are more than `cap`.
+fn with_two_terms(s: &Term, t: &Term, cap: u32) -> u64
+    ensures { result ≡ min (1 + (nodes s.now + nodes t.now)) (cap + 1) }
+{
+    if cap == 0 {
+        return 1;
+    }
+    let total = 1 + s.size(cap - 1);
+    if total > u64::from(cap) {
+        return total;
+    }
+    total + t.size(cap - total as u32)
+}
+
+/// One more than the depth of the deepest term, or `cap + 1` where this is more than `cap`.
+fn over_terms(terms: &[Term], cap: u32) -> u64
+    ensures { result ≡ min (1 + greatest (map depth_of terms.now)) (cap + 1) }
+{
+    if cap == 0 {
+        return 1;
+    }
+    let mut deepest = 0;
+    for t in terms {
+        deepest = greater(deepest, t.depth(cap - 1));
+    }
+    1 + deepest
+}
+
+/// The greater of two numbers.
+fn greater(a: u64, b: u64) -> u64
+    ensures { result ≡ max a b }
+{
+    if a < b { b } else { a }
+}
