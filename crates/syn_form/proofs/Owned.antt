@@ -6,9 +6,11 @@ use Rattle.syn_term.specs.declared.sorts.SymId.{SymId}
 use Rattle.syn_term.specs.Terms.{TermTree}
 use Rattle.syn_form.specs.declared.trees.Form.TheVariants as form
 use Rattle.syn_form.specs.declared.trees.Form.TheViews as view
+use Rattle.syn_form.specs.declared.trees.Out.TheVariants as out
+use Rattle.syn_form.specs.declared.trees.Out.TheViews as out_view
 use Rattle.syn_form.specs.Same.{OfOneBank}
-use Rattle.syn_form.specs.Trees.{FormTree, form_terms, all_of}
-use Rattle.syn_form.proofs.Equations.{form_terms-Atom, form_terms-Equal, form_terms-Not, form_terms-And, form_terms-Or, form_terms-Implies}
+use Rattle.syn_form.specs.Trees.{FormTree, OutTree, form_terms, out_terms, all_of}
+use Rattle.syn_form.proofs.Equations.{form_terms-Atom, form_terms-Equal, form_terms-Not, form_terms-And, form_terms-Or, form_terms-Implies, out_terms-Give, out_terms-If}
 
 module _ {A : Type 0} (P : A → Type 0) where
   pub All-left : (xs ys : List A) → All P (xs ++ ys) → All P xs
@@ -86,3 +88,34 @@ bank_member xs ys i j d e x y one lt lu is_x is_y =
     one_bank_of (form_terms x) (form_terms y) (all_of (map form_terms xs)) (all_of (map form_terms ys))
     (λ P h. subst (λ (z : FormTree). All P (form_terms z)) (sym is_x) (All-member P form_terms xs i d lt h))
     (λ P h. subst (λ (z : FormTree). All P (form_terms z)) (sym is_y) (All-member P form_terms ys j e lu h)) one
+
+module _ (o p : OutTree) (one : OfOneBank (out_terms o ++ out_terms p)) where
+  by_out_terms : (vs ws xs ys : List TermTree) → out_terms o ≡ vs → out_terms p ≡ ws → Among xs vs → Among ys ws → OfOneBank (xs ++ ys)
+  by_out_terms vs ws xs ys e k a b = one_bank_of xs ys (out_terms o) (out_terms p) (λ P h. a P (subst (All P) e h)) (λ P h. b P (subst (All P) k h)) one
+
+  -- two given terms
+  pub agree_given : (s t : TermTree) → o ≡ out.Give s → p ≡ out.Give t → Agree s t
+  agree_given s t e k = agree_at (s ∷ []) (t ∷ []) 0 0 s t s t (by_out_terms (s ∷ []) (t ∷ []) (s ∷ []) (t ∷ []) (ap out_terms e ∙ out_terms-Give s) (ap out_terms k ∙ out_terms-Give t) (λ P h. h) (λ P h. h)) (omega arith) (omega arith) refl refl
+
+  module _ (f g : FormTree) (u v x y : OutTree) (is_o : o ≡ out_view.If f u v) (is_p : p ≡ out_view.If g x y) where
+    parts_of_choices : (xs ys : List TermTree) → Among xs (form_terms f ++ (out_terms u ++ out_terms v)) → Among ys (form_terms g ++ (out_terms x ++ out_terms y)) → OfOneBank (xs ++ ys)
+    parts_of_choices xs ys = by_out_terms (form_terms f ++ (out_terms u ++ out_terms v)) (form_terms g ++ (out_terms x ++ out_terms y)) xs ys (ap out_terms is_o ∙ out_terms-If f u v) (ap out_terms is_p ∙ out_terms-If g x y)
+
+    -- the tests, and the arms, of two choices
+    pub bank_tests : (a b : FormTree) → a ≡ f → b ≡ g → OfOneBank (form_terms a ++ form_terms b)
+    bank_tests a b is_a is_b =
+        parts_of_choices (form_terms a) (form_terms b)
+        (λ P h. subst (λ (z : FormTree). All P (form_terms z)) (sym is_a) (All-left P (form_terms f) (out_terms u ++ out_terms v) h))
+        (λ P h. subst (λ (z : FormTree). All P (form_terms z)) (sym is_b) (All-left P (form_terms g) (out_terms x ++ out_terms y) h))
+
+    pub bank_firsts : (a b : OutTree) → a ≡ u → b ≡ x → OfOneBank (out_terms a ++ out_terms b)
+    bank_firsts a b is_a is_b =
+        parts_of_choices (out_terms a) (out_terms b)
+        (λ P h. subst (λ (z : OutTree). All P (out_terms z)) (sym is_a) (All-left P (out_terms u) (out_terms v) (All-right P (form_terms f) (out_terms u ++ out_terms v) h)))
+        (λ P h. subst (λ (z : OutTree). All P (out_terms z)) (sym is_b) (All-left P (out_terms x) (out_terms y) (All-right P (form_terms g) (out_terms x ++ out_terms y) h)))
+
+    pub bank_seconds : (a b : OutTree) → a ≡ v → b ≡ y → OfOneBank (out_terms a ++ out_terms b)
+    bank_seconds a b is_a is_b =
+        parts_of_choices (out_terms a) (out_terms b)
+        (λ P h. subst (λ (z : OutTree). All P (out_terms z)) (sym is_a) (All-right P (out_terms u) (out_terms v) (All-right P (form_terms f) (out_terms u ++ out_terms v) h)))
+        (λ P h. subst (λ (z : OutTree). All P (out_terms z)) (sym is_b) (All-right P (out_terms x) (out_terms y) (All-right P (form_terms g) (out_terms x ++ out_terms y) h)))

@@ -1,8 +1,9 @@
 -- Two formulas of one case, or two outputs, are one tree exactly where their parts are.
 use Rattle.std.proofs.Common.{◌≡◌, ◌↔◌, List, map, IsTrue, Bool, sym, ◌∙◌, ap}
 use Rattle.syn_form.specs.declared.trees.Form.TheViews as view
-use Rattle.syn_form.specs.Trees.{FormTree, bare_form}
-use Rattle.syn_form.proofs.Equations.{bare_form-Not, bare_form-And, bare_form-Or, bare_form-Implies, Not-injective, And-injective, Or-injective, Implies-injective}
+use Rattle.syn_form.specs.declared.trees.Out.TheViews as out_view
+use Rattle.syn_form.specs.Trees.{FormTree, OutTree, bare_form, bare_out}
+use Rattle.syn_form.proofs.Equations.{bare_form-Not, bare_form-And, bare_form-Or, bare_form-Implies, Not-injective, And-injective, Or-injective, Implies-injective, bare_out-If, If-injective}
 
 module _ (f g : FormTree) (r : Bool) where
   pub negations_same : (a b x y : FormTree) → f ≡ view.Not a → g ≡ view.Not b → x ≡ a → y ≡ b → IsTrue r ↔ (bare_form x ≡ bare_form y) → IsTrue r ↔ (bare_form f ≡ bare_form g)
@@ -43,3 +44,21 @@ module _ (f g : FormTree) (r : Bool) where
       (λ s. absurd (unlike (sym same ∙ s))),
       (λ s. same ∙ h.1 (Implies-injective (bare_form x) (bare_form b) (bare_form z) (bare_form d) (sym whole_f ∙ (s ∙ whole_g))).0),
     )
+
+module _ (o p : OutTree) (r : Bool) (f g a b : FormTree) (u v x y c d : OutTree) (is_o : o ≡ out_view.If f u v) (is_p : p ≡ out_view.If g x y) (is_a : a ≡ f) (is_b : b ≡ g) (is_c : c ≡ u) (is_d : d ≡ x) where
+  choice_o : bare_out o ≡ out_view.If (bare_form a) (bare_out c) (bare_out v)
+  choice_o = let e : bare_out o ≡ out_view.If (bare_form f) (bare_out u) (bare_out v) = ap bare_out is_o ∙ bare_out-If f u v in let h = is_a in let k = is_c in cc
+
+  choice_p : bare_out p ≡ out_view.If (bare_form b) (bare_out d) (bare_out y)
+  choice_p = let e : bare_out p ≡ out_view.If (bare_form g) (bare_out x) (bare_out y) = ap bare_out is_p ∙ bare_out-If g x y in let h = is_b in let k = is_d in cc
+
+  -- where the tests and the first arms are one tree, the second arms decide
+  pub choices_same : (e h : OutTree) → e ≡ v → h ≡ y → bare_form a ≡ bare_form b → bare_out c ≡ bare_out d → IsTrue r ↔ (bare_out e ≡ bare_out h) → IsTrue r ↔ (bare_out o ≡ bare_out p)
+  choices_same e h is_e is_h test first k = (
+    (λ s. let m = k.0 s in let n = choice_o in let q = choice_p in let i = is_e in let j = is_h in cc),
+    (λ s. k.1 (ap bare_out is_e ∙ ((If-injective (bare_form a) (bare_form b) (bare_out c) (bare_out v) (bare_out d) (bare_out y) (sym choice_o ∙ (s ∙ choice_p))).2 ∙ ap bare_out (sym is_h)))),
+  )
+
+  -- where the first arms are not, neither are the wholes
+  pub choices_differ : (bare_out c ≡ bare_out d → ⊥) → bare_out o ≡ bare_out p → ⊥
+  choices_differ unlike s = unlike (If-injective (bare_form a) (bare_form b) (bare_out c) (bare_out v) (bare_out d) (bare_out y) (sym choice_o ∙ (s ∙ choice_p))).1

@@ -295,7 +295,7 @@ fn over_terms(terms: &[Term], cap: u32) -> u64
 }
 
 /// The greater of two numbers.
-fn greater(a: u64, b: u64) -> u64
+pub(crate) fn greater(a: u64, b: u64) -> u64
     ensures { result ≡ max a b }
 {
     if a < b { b } else { a }

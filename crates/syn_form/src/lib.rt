@@ -5,6 +5,7 @@
 #![tactic(auto)]
 
 mod form;
+mod output;
 mod trees;
 
 pub use trees::{Binder, Form, Mono, Out, Part, QForm, Side};
