@@ -10,3 +10,5 @@ pub mod Chains
 pub mod Owned
 pub mod Sameness
 pub mod Fewer
+pub mod Members
+pub mod Banks

@@ -5,3 +5,4 @@ pub mod Plain
 pub mod Substitutions
 pub mod Simplification
 pub mod Truth
+pub mod Joining

@@ -5,7 +5,10 @@
 #![tactic(auto)]
 
 mod form;
+mod joins;
 mod output;
+mod simplifying;
 mod trees;
 
+pub use simplifying::{simplify, simplify_out};
 pub use trees::{Binder, Form, Mono, Out, Part, QForm, Side};
