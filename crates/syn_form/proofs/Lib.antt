@@ -12,3 +12,4 @@ pub mod Sameness
 pub mod Fewer
 pub mod Members
 pub mod Banks
+pub mod Testing

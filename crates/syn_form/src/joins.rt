@@ -141,7 +141,7 @@ fn push_new(j: Junction, done: &mut Items<Form>, f: &Form) -> Result<(), NoMemor
         return Ok(());
     }
     if contains_form(done.as_slice(), f) {
-        return Ok(());
+        return Ok(()); // the earlier one stays
     }
     done.push(f.again()?)?;
     Ok(())

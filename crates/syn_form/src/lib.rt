@@ -8,6 +8,8 @@ mod form;
 mod joins;
 mod output;
 mod simplifying;
+#[cfg(test)]
+mod tests;
 mod trees;
 
 pub use simplifying::{simplify, simplify_out};
