@@ -9,7 +9,7 @@ mod joins;
 mod output;
 mod simplifying;
 #[cfg(test)]
-mod tests;
+mod simplifying_tests;
 mod trees;
 
 pub use simplifying::{simplify, simplify_out};
