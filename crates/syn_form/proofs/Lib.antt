@@ -17,3 +17,6 @@ pub mod Owned
 pub mod Sameness
 pub mod Fewer
 pub mod SignLaws
+pub mod Members
+pub mod Banks
+pub mod Testing

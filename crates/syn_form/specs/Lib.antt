@@ -15,3 +15,4 @@ pub mod Lists
 pub mod Quantified
 pub mod Elaboration
 pub mod Texts
+pub mod Joining

@@ -5,14 +5,19 @@
 #![tactic(auto)]
 
 mod form;
+mod joins;
 mod output;
 mod signs;
+mod simplifying;
+#[cfg(test)]
+mod simplifying_tests;
 mod syntax;
 #[cfg(test)]
 mod tests;
 mod trees;
 
 pub use signs::polarity;
+pub use simplifying::{simplify, simplify_out};
 pub use syntax::{
     BinderSyntax, FormSyntax, HeadName, Lexeme, Mark, OutSyntax, Quantifier, TermSyntax,
 };

@@ -1,0 +1,7 @@
+use Rattle.std.proofs.Common.{◌≡◌, false, take}
+use Rattle.std.specs.List.{list_any}
+use Rattle.syn_form.specs.Same.{same_form}
+use Rattle.syn_form.proofs.joins.contains_form.Given as goal
+
+abbrev pub invariant-loop-g : goal.invariant-loop-g
+invariant-loop-g l = list_any (λ g. same_form g l.f) (take l.g-index l.fs) ≡ false
