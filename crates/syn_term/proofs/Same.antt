@@ -17,7 +17,7 @@ one_number m n h = grind (arith, nat_tests)
 number_itself : (m : ℕ) → nat_eq m m ≡ true
 number_itself m = grind (arith, nat_tests)
 
-same_code-to : (a b : Gv) → same_code a b ≡ true → a ≡ b
+pub same_code-to : (a b : Gv) → same_code a b ≡ true → a ≡ b
 unfolding same_code
 same_code-to gnil gnil h = refl
 same_code-to gnil (gnum n) h = absurd (cc)
@@ -31,7 +31,7 @@ same_code-to (gcons a b) (gcons c d) h =
     let e : a ≡ c = same_code-to a c (both_true (same_code a c) (same_code b d) h).0 in
     let k : b ≡ d = same_code-to b d (both_true (same_code a c) (same_code b d) h).1 in cc
 
-same_code-from : (a : Gv) → same_code a a ≡ true
+pub same_code-from : (a : Gv) → same_code a a ≡ true
 unfolding same_code
 same_code-from gnil = refl
 same_code-from (gnum n) = number_itself n
