@@ -7,3 +7,4 @@ pub mod NumberLemmas
 pub mod SkolemLemmas
 pub mod SymbolLaws
 pub mod KeyLemmas
+pub mod SortLemmas

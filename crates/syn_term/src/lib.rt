@@ -3,6 +3,7 @@
 #![tactic(auto)]
 
 mod bank;
+mod declared_sorts;
 mod memory;
 mod names;
 mod pointer;

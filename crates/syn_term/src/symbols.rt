@@ -6,10 +6,12 @@ ghost use Rattle.std.specs.Option.{option_copied, option_map};
 ghost use Rattle.std.specs.Str.{bytes_eq};
 ghost use Rattle.syn_term.specs.declared.sorts.Kind.TheVariants.{Input};
 ghost use Rattle.syn_term.specs.Symbols.{SymbolTable, IsTaken, IsSortBelow, FitsName, FitsResult, IsAddable, FitsKind, MayAdd, IsPrefix, HasDistinctNames, zero_symbol, succ_symbol, first_symbols, with_symbol, symbol_at, names_of};
+ghost use Rattle.syn_term.specs.DeclaredSorts.{HasDistinctSorts};
+ghost use Rattle.syn_term.specs.SymbolKeys.{IsNew};
 
 use crate::memory::NoMemory;
 use crate::names::{is_name, is_skolem_name};
-use crate::sorts::{Kind, NamedSort, Sort, Sym, SymId};
+use crate::sorts::{Kind, NamedSort, Shape, Sort, Sym, SymId};
 use crate::text::Text;
 use indexmap::IndexMap;
 use sqlite_items::Items;
@@ -62,7 +64,7 @@ fn fits_kind(sym: &Sym) -> bool
 }
 
 // A sort is a number below the count of the declared ones, so the count alone decides.
-fn is_sort(count: usize, sort: Sort) -> bool
+pub(crate) fn is_sort(count: usize, sort: Sort) -> bool
     ensures { IsTrue result ↔ IsSortBelow count sort }
 {
     match sort {
@@ -71,7 +73,7 @@ fn is_sort(count: usize, sort: Sort) -> bool
     }
 }
 
-fn are_sorts(count: usize, sorts: &[Sort]) -> bool
+pub(crate) fn are_sorts(count: usize, sorts: &[Sort]) -> bool
     ensures { IsTrue result ↔ All (IsSortBelow count) sorts.now }
 {
     sorts.iter().all(|sort| is_sort(count, *sort))
@@ -118,20 +120,24 @@ fn make_succ(alloc: Global) -> Result<Sym, NoMemory>
 /// came, and the declared sorts. Contracts see it as its two lists.
 #[derive(Drop)]
 pub struct Symbols {
-    by_name: IndexMap<String, Sym>,
-    sorts: Items<NamedSort>,
+    pub(crate) by_name: IndexMap<String, Sym>,
+    pub(crate) sorts: Items<NamedSort>,
+    // The number of nodes of each declared sort's default term.
+    pub(crate) sizes: Items<u32>,
+    // How numbers are built, to be lent.
+    pub(crate) nat: Shape,
 }
 
 impl Model for Symbols {
     ghost use Rattle.indexmap.specs.IndexMap.{values};
     ghost use Rattle.syn_term.specs.Symbols.{SymbolTable};
-    ghost use Rattle.syn_term.specs.SymbolKeys.{IsKeyed};
+    ghost use Rattle.syn_term.specs.SymbolKeys.{IsKept};
 
     ghost Value = { SymbolTable };
 
     ghost view = { λ table. record { syms = values table.by_name; sorts = table.sorts } };
 
-    ghost invariant = { λ table. IsKeyed table.by_name.entries };
+    ghost invariant = { λ table. IsKept table.by_name.entries table.sorts table.sizes table.nat };
 }
 
 impl Symbols {
@@ -139,10 +145,13 @@ impl Symbols {
     pub fn new(alloc: Global) -> Result<Symbols, NoMemory>
         ensures first { IfOk result (λ table. table ≡ first_symbols) }
         ensures distinct { IfOk result HasDistinctNames }
+        ensures sorts { IfOk result HasDistinctSorts }
     {
         let mut table = Symbols {
             by_name: IndexMap::new(alloc),
             sorts: Items::new(alloc),
+            sizes: Items::new(alloc),
+            nat: Shape::Nat,
         };
         table.push(make_zero(alloc)?)?;
         table.push(make_succ(alloc)?)?;
@@ -151,10 +160,11 @@ impl Symbols {
 
     // The name is copied, since the hash table owns its keys and the symbol its name.
     fn push(&mut self, sym: Sym) -> Result<SymId, NoMemory>
-        requires { ¬ (Contains (names_of self.old) sym.name) }
+        requires { IsNew self.old sym.name }
         ensures ok { IfOk result (λ id. (id.0 ≡ length self.old.syms) × (self.new ≡ with_symbol self.old sym)) }
         ensures err { OnErr result (self.new ≡ self.old) }
         ensures distinct { OnOk result (HasDistinctNames self.new) }
+        ensures sorts { HasDistinctSorts self.new }
     {
         let Ok(number) = u32::try_from(self.by_name.len()) else {
             return Err(NoMemory);
@@ -166,9 +176,10 @@ impl Symbols {
         }
     }
 
-    fn is_taken(&self, name: &str) -> bool
+    pub(crate) fn is_taken(&self, name: &str) -> bool
         ensures taken { IsTrue result ↔ IsTaken self.now name.now }
         ensures distinct { HasDistinctNames self.now }
+        ensures sorts { HasDistinctSorts self.now }
     {
         self.find(name).is_some() || names_a_sort(self.sorts.as_slice(), name)
     }
@@ -176,6 +187,7 @@ impl Symbols {
     fn may_add(&self, sym: &Sym) -> bool
         ensures allowed { IsTrue result ↔ MayAdd self.now sym.now }
         ensures distinct { HasDistinctNames self.now }
+        ensures sorts { HasDistinctSorts self.now }
     {
         let count = self.sorts.len();
         !self.is_taken(sym.name.as_str())
@@ -189,13 +201,14 @@ impl Symbols {
     /// not one that is added, an input has arguments, or a result is there or missing against the
     /// kind; the table is then as it was. NoMemory: memory was refused, or the table has as many
     /// symbols as there are numbers for them; the table is then as it was too.
-    #[tactic(auto, using(crate::proofs::SymbolLaws::growth))]
+    #[tactic(auto, using(crate::proofs::SymbolLaws::growth, crate::proofs::SortLemmas::new_of_added))]
     pub fn add(&mut self, sym: Sym) -> Result<Option<SymId>, NoMemory>
         ensures added { IfOk result (λ o. MatchOption o (¬ (MayAdd self.old sym)) (λ id. MayAdd self.old sym × (id.0 ≡ length self.old.syms) × (self.new ≡ with_symbol self.old sym))) }
         ensures kept { IfOk result (λ o. IfNone o (self.new ≡ self.old)) }
         ensures err { OnErr result (self.new ≡ self.old) }
         ensures extends { IsPrefix self.old self.new }
         ensures distinct { HasDistinctNames self.new }
+        ensures sorts { HasDistinctSorts self.new }
     {
         if !self.may_add(&sym) {
             return Ok(None);
@@ -209,6 +222,7 @@ impl Symbols {
         ensures place { option_map (λ id. id.0) result ≡ position (bytes_eq name.now) (names_of self.now) }
         ensures named { MatchOption result (¬ (Contains (names_of self.now) name.now)) (λ id. slice_get (names_of self.now) id.0 ≡ Some name.now) }
         ensures distinct { HasDistinctNames self.now }
+        ensures sorts { HasDistinctSorts self.now }
     {
         match self.by_name.get_index_of(name) {
             None => None,
@@ -218,7 +232,8 @@ impl Symbols {
 
     /// The symbol with this number. None: the table has no such number.
     pub fn get(&self, id: SymId) -> Option<&Sym>
-        ensures { option_copied result ≡ symbol_at self.now id }
+        ensures symbol { option_copied result ≡ symbol_at self.now id }
+        ensures sorts { HasDistinctSorts self.now }
     {
         match self.by_name.get_index(id.0 as usize) {
             None => None,
