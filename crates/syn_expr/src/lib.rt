@@ -2,6 +2,10 @@
 //! it, by the names of a scope.
 #![tactic(auto)]
 
+mod names;
+mod print_terms;
 mod scope;
+mod text;
 
+pub use print_terms::print_term;
 pub use scope::Scope;
