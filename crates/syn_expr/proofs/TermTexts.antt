@@ -12,7 +12,7 @@ use Rattle.syn_term.specs.declared.term.Node.TheViews as view
 use Rattle.syn_term.specs.Symbols.{symbol_at}
 use Rattle.syn_term.proofs.Trees.{fold-App, fold-Var}
 use Rattle.syn_form.specs.Scopes.{TextScope}
-use Rattle.syn_form.specs.Printing.{Printed, print_step, printing_of, printed_term, symbol_printed, kind_printed, successor_printed, number_printed, applied_printed, applied_text, name_of, texts_of, var_text}
+use Rattle.syn_form.specs.Printing.{atom_text, Printed, print_step, printing_of, printed_term, symbol_printed, kind_printed, successor_printed, number_printed, applied_printed, applied_text, name_of, texts_of, var_text}
 use Rattle.syn_expr.specs.Places.{bracketed, arguments_text}
 
 -- the name, and then the arguments in brackets
@@ -62,3 +62,9 @@ application_put scope t p f args xs name old mid new is same none named put_name
     let plain : symbol_printed (symbol_at scope.table f) (map (printing_of scope) args) ≡ applied_printed (name_of (symbol_at scope.table f)) (map (printing_of scope) args) = plain_symbol (symbol_at scope.table f) (map (printing_of scope) args) (ap (λ (q : Printed). q.number) (sym printed) ∙ none) in
     let text : printed_term scope t ≡ name ++ arguments_text scope xs = ap (λ (q : Printed). q.text) (printed ∙ plain) ∙ (applied_arguments scope (name_of (symbol_at scope.table f)) args ∙ (ap (λ (z : List ℕ). z ++ arguments_text scope args) (sym named) ∙ ap (λ (z : List Node). name ++ arguments_text scope z) (sym same))) in
     put_rest ∙ (ap (λ (z : List ℕ). z ++ arguments_text scope xs) put_name ∙ (append_assoc old name (arguments_text scope xs) ∙ ap (λ (z : List ℕ). old ++ z) (sym text)))
+
+-- an atom is put: its name, and then its arguments
+pub atom_put : (scope : TextScope) (s : Option Sym) (args : List Node) (name old mid new : List ℕ) → name ≡ name_of s → mid ≡ old ++ name → new ≡ mid ++ arguments_text scope args → new ≡ old ++ atom_text scope s args
+atom_put scope s args name old mid new named put_name put_rest =
+    let text : atom_text scope s args ≡ name ++ arguments_text scope args = applied_arguments scope (name_of s) args ∙ ap (λ (z : List ℕ). z ++ arguments_text scope args) (sym named) in
+    put_rest ∙ (ap (λ (z : List ℕ). z ++ arguments_text scope args) put_name ∙ (append_assoc old name (arguments_text scope args) ∙ ap (λ (z : List ℕ). old ++ z) (sym text)))
