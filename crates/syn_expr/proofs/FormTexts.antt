@@ -1,20 +1,11 @@
 -- The text of a formula at each connective, from the texts of its parts.
-use Rattle.std.proofs.Common.{◌≡◌, ℕ, List, ◌++◌, map, codes, sym, ◌∙◌, ap, append_assoc, refl}
+use Rattle.std.proofs.Common.{◌≡◌, ℕ, List, ◌++◌, map, codes, sym, ◌∙◌, ap}
 use Rattle.std.proofs.lemmas.Simd.{map-map}
 use Rattle.syn_form.specs.declared.trees.Form.TheViews as view
 use Rattle.syn_form.specs.Trees.{FormTree}
 use Rattle.syn_form.specs.Scopes.{TextScope}
 use Rattle.syn_form.specs.Printing.{PrintedForm, inner, joined, print_form_step, printing_of_form, printed_form}
 use Rattle.syn_form.proofs.Equations.{fold-And, fold-Or, fold-Implies}
-
--- the text was put as a whole, or as three pieces
-pub whole_put : (text whole old new : List ℕ) → whole ≡ text → new ≡ old ++ text → new ≡ old ++ whole
-whole_put text whole old new is put = put ∙ ap (λ (z : List ℕ). old ++ z) (sym is)
-
-pub three_put : (a b c whole old first second new : List ℕ) → whole ≡ a ++ b ++ c → first ≡ old ++ a → second ≡ first ++ b → new ≡ second ++ c → new ≡ old ++ whole
-three_put a b c whole old first second new is put_a put_b put_c =
-    let e : old ++ a ++ b ++ c ≡ old ++ (a ++ b ++ c) = simp append_assoc refl in
-    put_c ∙ (ap (λ (z : List ℕ). z ++ c) (put_b ∙ ap (λ (z : List ℕ). z ++ b) put_a) ∙ (e ∙ ap (λ (z : List ℕ). old ++ z) (sym is)))
 
 module _ (scope : TextScope) where
   -- a formula as it stands inside another

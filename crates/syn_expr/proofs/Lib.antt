@@ -1,3 +1,4 @@
-pub mod Joined
+pub mod Pieces
 pub mod TermTexts
 pub mod FormTexts
+pub mod QFormTexts

@@ -14,6 +14,7 @@ use Rattle.syn_term.proofs.Trees.{fold-App, fold-Var}
 use Rattle.syn_form.specs.Scopes.{TextScope}
 use Rattle.syn_form.specs.Printing.{atom_text, Printed, print_step, printing_of, printed_term, symbol_printed, kind_printed, successor_printed, number_printed, applied_printed, applied_text, name_of, texts_of, var_text}
 use Rattle.syn_expr.specs.Places.{bracketed, arguments_text}
+use Rattle.syn_expr.proofs.Pieces.{two_put, whole_put}
 
 -- the name, and then the arguments in brackets
 applied_is : (name : List ℕ) (ps : List Printed) → applied_text name ps ≡ name ++ bracketed (texts_of ps)
@@ -53,7 +54,7 @@ plain_symbol (Some s) ps h = plain_kind s.kind s.name ps h
 pub variable_put : (scope : TextScope) (t : Node) (p : Place) (v : Var) (old new : List ℕ) → t ≡ node.Var p v → new ≡ old ++ var_text scope v → new ≡ old ++ printed_term scope t
 variable_put scope t p v old new is put =
     let e : printed_term scope t ≡ var_text scope v = ap (printed_term scope) is ∙ ap (λ (q : Printed). q.text) (fold-Var (print_step scope) p v) in
-    put ∙ ap (λ (z : List ℕ). old ++ z) (sym e)
+    whole_put (var_text scope v) (printed_term scope t) old new e put
 
 -- a symbol is put, and then its arguments
 pub application_put : (scope : TextScope) (t : Node) (p : Place) (f : SymId) (args xs : List Node) (name old mid new : List ℕ) → t ≡ view.App p f args → xs ≡ args → (printing_of scope t).number ≡ None → name ≡ name_of (symbol_at scope.table f) → mid ≡ old ++ name → new ≡ mid ++ arguments_text scope xs → new ≡ old ++ printed_term scope t
@@ -61,10 +62,10 @@ application_put scope t p f args xs name old mid new is same none named put_name
     let printed : printing_of scope t ≡ symbol_printed (symbol_at scope.table f) (map (printing_of scope) args) = ap (printing_of scope) is ∙ fold-App (print_step scope) p f args in
     let plain : symbol_printed (symbol_at scope.table f) (map (printing_of scope) args) ≡ applied_printed (name_of (symbol_at scope.table f)) (map (printing_of scope) args) = plain_symbol (symbol_at scope.table f) (map (printing_of scope) args) (ap (λ (q : Printed). q.number) (sym printed) ∙ none) in
     let text : printed_term scope t ≡ name ++ arguments_text scope xs = ap (λ (q : Printed). q.text) (printed ∙ plain) ∙ (applied_arguments scope (name_of (symbol_at scope.table f)) args ∙ (ap (λ (z : List ℕ). z ++ arguments_text scope args) (sym named) ∙ ap (λ (z : List Node). name ++ arguments_text scope z) (sym same))) in
-    put_rest ∙ (ap (λ (z : List ℕ). z ++ arguments_text scope xs) put_name ∙ (append_assoc old name (arguments_text scope xs) ∙ ap (λ (z : List ℕ). old ++ z) (sym text)))
+    two_put name (arguments_text scope xs) (printed_term scope t) old mid new text put_name put_rest
 
 -- an atom is put: its name, and then its arguments
 pub atom_put : (scope : TextScope) (s : Option Sym) (args : List Node) (name old mid new : List ℕ) → name ≡ name_of s → mid ≡ old ++ name → new ≡ mid ++ arguments_text scope args → new ≡ old ++ atom_text scope s args
 atom_put scope s args name old mid new named put_name put_rest =
     let text : atom_text scope s args ≡ name ++ arguments_text scope args = applied_arguments scope (name_of s) args ∙ ap (λ (z : List ℕ). z ++ arguments_text scope args) (sym named) in
-    put_rest ∙ (ap (λ (z : List ℕ). z ++ arguments_text scope args) put_name ∙ (append_assoc old name (arguments_text scope args) ∙ ap (λ (z : List ℕ). old ++ z) (sym text)))
+    two_put name (arguments_text scope args) (atom_text scope s args) old mid new text put_name put_rest

@@ -3,7 +3,8 @@ use Rattle.std.specs.Prelude.{ℕ, ◌+◌, List, [], ◌∷◌, ◌++◌, Optio
 use Rattle.syn_term.specs.declared.sorts.Var.{Var}
 use Rattle.syn_term.specs.Terms.{TermTree}
 use Rattle.syn_form.specs.Scopes.{Named, TextScope}
-use Rattle.syn_form.specs.Printing.{joined, printed_term}
+use Rattle.syn_form.specs.declared.trees.Binder.{Binder}
+use Rattle.syn_form.specs.Printing.{joined, printed_term, sort_text}
 use Rattle.syn_expr.specs.declared.names.Inside.{Inside}
 use Rattle.syn_expr.specs.declared.names.Names.{Names, fold-Names}
 use Rattle.syn_expr.specs.declared.names.Names.TheOpen.{Names-F}
@@ -37,3 +38,7 @@ arguments_text scope args = bracketed (map (printed_term scope) args)
 abbrev pub next_number : Option ℕ → Option ℕ
 next_number None = None
 next_number (Some n) = if nat_lt n 1000 then Some (n + 1) else None
+
+-- a quantifier up to its formula, as in `all x: nat. `
+abbrev pub binder_text : TextScope → List ℕ → Binder → List ℕ
+binder_text scope word b = word ++ b.name ++ codes ": " ++ sort_text scope.table b.var.sort ++ codes ". "

@@ -2,8 +2,8 @@
 use Rattle.std.proofs.Common.{◌∙◌}
 use Rattle.std.proofs.lemmas.Result.{IfOk-weaker}
 use Rattle.syn_expr.specs.Places.{spoken_at}
-use Rattle.syn_expr.proofs.Joined.{item_put}
-use Rattle.syn_expr.proofs.FormTexts.{inner_text, whole_put, three_put, and_text, or_text, implies_text}
+use Rattle.syn_expr.proofs.Pieces.{item_put, whole_put, three_put}
+use Rattle.syn_expr.proofs.FormTexts.{inner_text, and_text, or_text, implies_text}
 use Rattle.syn_expr.proofs.print_forms.+forms.Goals as goal
 
 pub put_form-returns-in-And : goal.put_form-returns-in-And

@@ -2,7 +2,7 @@ use Rattle.std.proofs.Common.{sym, ◌∙◌}
 use Rattle.std.proofs.lemmas.Result.{IfOk-weaker}
 use Rattle.syn_expr.specs.Places.{spoken_at}
 use Rattle.syn_form.specs.Printing.{printed_term}
-use Rattle.syn_expr.proofs.Joined.{item_put}
+use Rattle.syn_expr.proofs.Pieces.{item_put}
 use Rattle.syn_expr.proofs.TermTexts.{application_put}
 use Rattle.syn_expr.proofs.print_terms.+terms.Goals as goal
 

@@ -1,8 +1,20 @@
--- Texts that are put one after another, with a text between.
+-- Pieces that are put one after another, and items with a text between.
 use Rattle.std.proofs.Common.{◌≡◌, ℕ, ◌+◌, ◌<◌, List, [], ◌∷◌, ◌++◌, map, length, take, get_or, if◌then◌else◌, ◌==◌, refl, sym, ◌∙◌, ap, append_assoc, arith}
 use Rattle.std.proofs.lemmas.List.{take_more, map-append, length-map, length-take-le}
 use Rattle.std.proofs.lemmas.Bool.Decides.{nat_tests}
 use Rattle.syn_form.specs.Printing.{joined}
+
+-- the text was put as a whole, or as two or three pieces
+pub whole_put : (text whole old new : List ℕ) → whole ≡ text → new ≡ old ++ text → new ≡ old ++ whole
+whole_put text whole old new is put = put ∙ ap (λ (z : List ℕ). old ++ z) (sym is)
+
+pub two_put : (a b whole old mid new : List ℕ) → whole ≡ a ++ b → mid ≡ old ++ a → new ≡ mid ++ b → new ≡ old ++ whole
+two_put a b whole old mid new is put_a put_b =
+    put_b ∙ (ap (λ (z : List ℕ). z ++ b) put_a ∙ (append_assoc old a b ∙ ap (λ (z : List ℕ). old ++ z) (sym is)))
+
+pub three_put : (a b c whole old first second new : List ℕ) → whole ≡ a ++ b ++ c → first ≡ old ++ a → second ≡ first ++ b → new ≡ second ++ c → new ≡ old ++ whole
+three_put a b c whole old first second new is put_a put_b put_c =
+    two_put (a ++ b) c whole old second new is (two_put a b (a ++ b) old first second refl put_a put_b) put_c
 
 -- what stands between some texts and the next
 gap : List ℕ → List (List ℕ) → List ℕ
