@@ -5,6 +5,7 @@ use Rattle.syn_term.specs.declared.sorts.SymId.{SymId}
 use Rattle.syn_term.specs.declared.sorts.Sort.{Sort}
 use Rattle.syn_term.specs.declared.sorts.Sort.TheVariants.{Nat, Named}
 use Rattle.syn_term.specs.Symbols.{SymbolTable, IsPrefix, IsSort, IsSortBelow, symbol_at, with_symbol}
+use Rattle.syn_term.specs.DeclaredSorts.{cons_symbol, list_sort, make_symbol, nil_symbol, tuple_sort, with_list, with_tuple}
 
 -- a table begins itself
 pub IsPrefix-refl : (a : SymbolTable) → IsPrefix a a
@@ -22,6 +23,23 @@ IsPrefix-trans a b c p q = record {
 -- one more symbol stands after the others
 pub IsPrefix-with_symbol : (a : SymbolTable) (s : Sym) → IsPrefix a (with_symbol a s)
 IsPrefix-with_symbol a s = record { more_syms = s ∷ []; more_sorts = []; syms = refl; sorts = sym (append-nil a.sorts) }
+
+-- and so do a declared sort and its makers
+pub IsPrefix-with_tuple : (a : SymbolTable) (name make : List ℕ) (parts : List Sort) → IsPrefix a (with_tuple a name make parts)
+IsPrefix-with_tuple a name make parts = record {
+  more_syms = make_symbol a make parts ∷ [];
+  more_sorts = tuple_sort a name parts ∷ [];
+  syms = refl;
+  sorts = refl;
+}
+
+pub IsPrefix-with_list : (a : SymbolTable) (name nil cons : List ℕ) (item : Sort) → IsPrefix a (with_list a name nil cons item)
+IsPrefix-with_list a name nil cons item = record {
+  more_syms = nil_symbol a nil ∷ cons_symbol a cons item ∷ [];
+  more_sorts = list_sort a name item ∷ [];
+  syms = append_assoc a.syms (nil_symbol a nil ∷ []) (cons_symbol a cons item ∷ []);
+  sorts = refl;
+}
 
 slice_get-append : {X : Type 0} (xs ys : List X) (i : ℕ) (x : X) → slice_get xs i ≡ Some x → slice_get (xs ++ ys) i ≡ Some x
 slice_get-append [] ys i x e = absurd (cc)
@@ -43,5 +61,6 @@ IsSort-IsPrefix a b sort h p =
     let more : length b.sorts ≡ length a.sorts + length p.more_sorts = ap length p.sorts ∙ length-append a.sorts p.more_sorts in
     below_more (length a.sorts) (length b.sorts) (omega arith) sort h
 
--- for `search`: a call that keeps a table, or adds a symbol, leaves what it found at the table's beginning
-pub ruleset growth = (IsPrefix-refl, IsPrefix-with_symbol)
+-- for `search`: a call that keeps a table, adds a symbol or declares a sort leaves what it found at the
+-- table's beginning
+pub ruleset growth = (IsPrefix-refl, IsPrefix-with_symbol, IsPrefix-with_list, IsPrefix-with_tuple)

@@ -1,7 +1,7 @@
 -- The sorts of a table: their names, how their values are built, and what it takes to declare one.
-use Rattle.std.specs.Prelude.{◌≡◌, ◌≢◌, ℕ, ◌+◌, ◌≤◌, List, [], ◌∷◌, ◌++◌, Option, Some, All, Contains, codes, fold, get_or, if◌then◌else◌, length, map, position, slice_get}
+use Rattle.std.specs.Prelude.{◌≡◌, ◌≢◌, ℕ, ◌+◌, ◌≤◌, List, [], ◌∷◌, ◌++◌, Option, Some, All, Contains, codes, fold, if◌then◌else◌, length, map, position, slice_get}
 use Rattle.std.specs.List.{sum_by}
-use Rattle.std.specs.Option.{option_map}
+use Rattle.std.specs.Option.{option_map, unwrap_or}
 use Rattle.std.specs.Str.{bytes_eq}
 use Rattle.syn_term.specs.declared.sorts.Sort.{Sort}
 use Rattle.syn_term.specs.declared.sorts.Sort.TheVariants.{Nat, Named}
@@ -38,7 +38,7 @@ pub record HasDistinctSorts (table : SymbolTable) : Type 0 where
 -- natural numbers is `0`.
 abbrev pub size_in : List ℕ → Sort → ℕ
 size_in sizes Nat = 1
-size_in sizes (Named number) = get_or sizes number 0
+size_in sizes (Named number) = unwrap_or (slice_get sizes number) 0
 
 -- The same for a sort of this shape: the default of a list sort is its empty list, and that of a tuple sort is the tuple of
 -- the defaults of its parts.

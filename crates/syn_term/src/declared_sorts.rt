@@ -1,15 +1,117 @@
 // The declared sorts of a table. A sort comes with the symbols that make its values, under names
 // that nothing else has.
-ghost use Rattle.std.specs.Prelude.{◌≡◌, ◌≢◌, Some, MatchOption, map, position};
+ghost use Rattle.std.specs.Prelude.{◌≡◌, ◌≢◌, ◌↔◌, ◌+◌, ◌-◌, ◌<◌, ◌≤◌, ◌^◌, min, [], ◌∷◌, ◌++◌, IsTrue, Some, IfNone, IfOk, OnOk, OnErr, MatchOption, length, map, position, string_bytes};
+ghost use Rattle.std.specs.List.{sum_by};
 ghost use Rattle.std.specs.Option.{option_copied};
 ghost use Rattle.std.specs.Str.{bytes_eq};
-ghost use Rattle.syn_term.specs.DeclaredSorts.{HasDistinctSorts, name_of_sort, shape_of_sort, sort_named};
+ghost use Rattle.std.specs.String.{string_eq};
+ghost use Rattle.indexmap.specs.IndexMap.{insert_entry, spare, IsUnique};
+ghost use Rattle.syn_term.specs.Names.{IsName};
+ghost use Rattle.syn_term.specs.Symbols.{IsTaken, IsPrefix, HasDistinctNames, with_symbol};
+ghost use Rattle.syn_term.specs.DeclaredSorts.{HasDistinctSorts, MayAddList, MayAddTuple, default_size, default_sizes, name_of_sort, next_sort, next_symbol, shape_of_sort, shape_size, size_in, sort_named, with_list, with_sort, with_tuple};
+ghost use Rattle.syn_term.specs.SymbolKeys.{IsNew};
 
-use crate::sorts::{NamedSort, Shape, Sort};
-use crate::symbols::Symbols;
-use sqlite_items::at;
+use crate::memory::NoMemory;
+use crate::names::is_name;
+use crate::sorts::{Kind, NamedSort, Shape, Sort, Sym, SymId};
+use crate::symbols::{Symbols, are_sorts, is_sort};
+use crate::text::Text;
+use indexmap::IndexMap;
+use sqlite_items::{Items, at};
+use std::alloc::Global;
 
 const NAT: &str = "nat";
+
+// The most nodes that the default term of a tuple sort may have.
+const MOST_NODES: u32 = 64;
+
+// The number of nodes of the sort's default term.
+fn size_of(sizes: &[u32], sort: Sort) -> u32
+    ensures { result ≡ size_in sizes.now sort }
+{
+    match sort {
+        Sort::Nat => 1,
+        Sort::Named(number) => match at(sizes, number as usize) {
+            None => 0,
+            Some(size) => *size,
+        },
+    }
+}
+
+// The same for the sort of tuples with these parts. The sum stays at its last value.
+fn tuple_size(sizes: &[u32], parts: &[Sort]) -> u32
+    ensures { result ≡ min (1 + sum_by (size_in sizes.now) parts.now) (2 ^ 32 - 1) }
+{
+    let mut total = 1u32;
+    for part in parts {
+        total = total.saturating_add(size_of(sizes, *part));
+    }
+    total
+}
+
+fn are_few(parts: &[Sort]) -> bool
+    ensures { IsTrue result ↔ ((2 ≤ length parts.now) × (length parts.now ≤ 4)) }
+{
+    2 <= parts.len() && parts.len() <= 4
+}
+
+fn differ(name: &str, nil: &str, cons: &str) -> bool
+    ensures { IsTrue result ↔ ((name.now ≢ nil.now) × (name.now ≢ cons.now) × (nil.now ≢ cons.now)) }
+{
+    name != nil && name != cons && nil != cons
+}
+
+// A symbol, and the key that it stands under in the hash table, which is its name once more.
+fn keyed(
+    alloc: Global,
+    name: &str,
+    kind: Kind,
+    args: Items<Sort>,
+    sort: Sort,
+) -> Result<(String, Sym), NoMemory>
+    ensures { IfOk result (λ made. (string_bytes made.0 ≡ name.now) × (made.1 ≡ record { name = name.now; kind = kind; args = args; result = Some sort })) }
+{
+    let key = String::from_str(alloc, name)?;
+    let sym = Sym {
+        name: Text::from_str(alloc, name)?,
+        kind,
+        args,
+        result: Some(sort),
+    };
+    Ok((key, sym))
+}
+
+// Puts the symbol under the key, where there is room: this takes no memory.
+fn put(by_name: &mut IndexMap<String, Sym>, key: String, sym: Sym)
+    requires { 0 < spare by_name.old }
+    ensures entries { by_name.new.entries ≡ insert_entry string_eq by_name.old.entries key sym }
+    ensures room { spare by_name.old ≤ spare by_name.new + 1 }
+    ensures unique { IsUnique string_eq by_name.new }
+{
+    let _ = by_name.insert(key, sym);
+}
+
+// Puts the sort and its size after the others, or leaves both lists as they were.
+fn push_sort(
+    sorts: &mut Items<NamedSort>,
+    sizes: &mut Items<u32>,
+    sort: NamedSort,
+    size: u32,
+) -> Result<(), NoMemory>
+    ensures sorts { OnOk result (sorts.new ≡ sorts.old ++ sort ∷ []) }
+    ensures sizes { OnOk result (sizes.new ≡ sizes.old ++ size ∷ []) }
+    ensures err_sorts { OnErr result (sorts.new ≡ sorts.old) }
+    ensures err_sizes { OnErr result (sizes.new ≡ sizes.old) }
+{
+    sizes.push(size)?;
+    match sorts.push(sort) {
+        Ok(()) => Ok(()),
+        Err(_) => {
+            sizes.pop();
+            Err(NoMemory)
+        }
+    }
+}
 
 fn place_of(sorts: &[NamedSort], name: &str) -> Option<usize>
     ensures { result ≡ position (bytes_eq name.now) (map (λ sort. sort.name) sorts.now) }
@@ -23,6 +125,211 @@ fn place_of(sorts: &[NamedSort], name: &str) -> Option<usize>
 }
 
 impl Symbols {
+    fn is_free(&self, name: &str) -> bool
+        ensures free { IsTrue result ↔ (IsName name.now × ¬ (IsTaken self.now name.now)) }
+        ensures distinct { HasDistinctNames self.now }
+        ensures sorts { HasDistinctSorts self.now }
+    {
+        !self.is_taken(name) && is_name(name)
+    }
+
+    // The numbers of the next sort and of the next two symbols. NoMemory: there is no number left.
+    fn next(&self) -> Result<(Sort, SymId, SymId), NoMemory>
+        ensures sort { IfOk result (λ next. (next.0 ≡ next_sort self.now) × (length self.now.sorts < 2 ^ 32)) }
+        ensures symbols { IfOk result (λ next. (next.1 ≡ next_symbol self.now 0) × (next.2 ≡ next_symbol self.now 1) × (length self.now.syms + 1 < 2 ^ 32)) }
+    {
+        let Ok(sort) = u32::try_from(self.sorts.len()) else {
+            return Err(NoMemory);
+        };
+        let Ok(first) = u32::try_from(self.by_name.len()) else {
+            return Err(NoMemory);
+        };
+        let Some(second) = first.checked_add(1) else {
+            return Err(NoMemory);
+        };
+        Ok((Sort::Named(sort), SymId(first), SymId(second)))
+    }
+
+    // Declares the sort and adds the one symbol that makes its values. Room is made first, so that
+    // nothing is left half done where memory is refused.
+    fn push_one(&mut self, sort: NamedSort, size: u32, make: (String, Sym)) -> Result<(), NoMemory>
+        requires own { string_bytes make.0 ≡ make.1.name }
+        requires free { IsNew self.old sort.name × IsNew self.old make.1.name × (sort.name ≢ make.1.name) }
+        requires sized { size ≡ shape_size (default_sizes self.old.sorts) sort.shape }
+        requires few { (length self.old.sorts < 2 ^ 32) × (length self.old.syms + 1 < 2 ^ 32) }
+        ensures ok { OnOk result (self.new ≡ with_symbol (with_sort self.old sort) make.1) }
+        ensures err { OnErr result (self.new ≡ self.old) }
+        ensures distinct { OnOk result (HasDistinctNames self.new) }
+        ensures sorts { HasDistinctSorts self.new }
+    {
+        self.by_name.reserve(1)?;
+        push_sort(&mut self.sorts, &mut self.sizes, sort, size)?;
+        let (key, sym) = make;
+        put(&mut self.by_name, key, sym);
+        Ok(())
+    }
+
+    // The same with two symbols.
+    fn push_two(
+        &mut self,
+        sort: NamedSort,
+        size: u32,
+        first: (String, Sym),
+        second: (String, Sym),
+    ) -> Result<(), NoMemory>
+        requires own { (string_bytes first.0 ≡ first.1.name) × (string_bytes second.0 ≡ second.1.name) }
+        requires free { IsNew self.old sort.name × IsNew self.old first.1.name × IsNew self.old second.1.name }
+        requires apart { (sort.name ≢ first.1.name) × (sort.name ≢ second.1.name) × (first.1.name ≢ second.1.name) }
+        requires sized { size ≡ shape_size (default_sizes self.old.sorts) sort.shape }
+        requires few { (length self.old.sorts < 2 ^ 32) × (length self.old.syms + 1 < 2 ^ 32) }
+        ensures ok { OnOk result (self.new ≡ with_symbol (with_symbol (with_sort self.old sort) first.1) second.1) }
+        ensures err { OnErr result (self.new ≡ self.old) }
+        ensures distinct { OnOk result (HasDistinctNames self.new) }
+        ensures sorts { HasDistinctSorts self.new }
+    {
+        self.by_name.reserve(2)?;
+        push_sort(&mut self.sorts, &mut self.sizes, sort, size)?;
+        let (key, sym) = first;
+        put(&mut self.by_name, key, sym);
+        let (key, sym) = second;
+        put(&mut self.by_name, key, sym);
+        Ok(())
+    }
+
+    fn may_add_list(&self, name: &str, nil: &str, cons: &str, item: Sort) -> bool
+        ensures allowed { IsTrue result ↔ MayAddList self.now name.now nil.now cons.now item }
+        ensures distinct { HasDistinctNames self.now }
+        ensures sorts { HasDistinctSorts self.now }
+    {
+        self.is_free(name)
+            && self.is_free(nil)
+            && self.is_free(cons)
+            && differ(name, nil, cons)
+            && is_sort(self.sorts.len(), item)
+    }
+
+    fn push_list(&mut self, name: &str, nil: &str, cons: &str, item: Sort) -> Result<Sort, NoMemory>
+        requires { MayAddList self.old name.now nil.now cons.now item }
+        ensures ok { IfOk result (λ sort. (sort ≡ next_sort self.old) × (self.new ≡ with_list self.old name.now nil.now cons.now item)) }
+        ensures err { OnErr result (self.new ≡ self.old) }
+        ensures distinct { OnOk result (HasDistinctNames self.new) }
+        ensures sorts { HasDistinctSorts self.new }
+    {
+        let alloc = *self.by_name.allocator();
+        let (sort, first, second) = self.next()?;
+        let named = NamedSort {
+            name: Text::from_str(alloc, name)?,
+            shape: Shape::List {
+                nil: first,
+                cons: second,
+                item,
+            },
+        };
+        let args = Items::from_slice(alloc, &[item, sort])?;
+        let nil = keyed(alloc, nil, Kind::Nil, Items::new(alloc), sort)?;
+        let cons = keyed(alloc, cons, Kind::Cons, args, sort)?;
+        self.push_two(named, 1, nil, cons)?;
+        Ok(sort)
+    }
+
+    /// Declares the sort of lists `name = nil | cons(item, name)`, adds its two symbols after the
+    /// others, `nil` first, and gives the sort. None: it may not be declared, since one of the three
+    /// names is no name, is taken or is given twice, or the items' sort is not there; the table is
+    /// then as it was. NoMemory: memory was refused, or there are as many sorts or symbols as there
+    /// are numbers for them; the table is then as it was too.
+    #[tactic(auto, using(crate::proofs::SymbolLaws::growth))]
+    pub fn add_list(
+        &mut self,
+        name: &str,
+        nil: &str,
+        cons: &str,
+        item: Sort,
+    ) -> Result<Option<Sort>, NoMemory>
+        ensures added { IfOk result (λ o. MatchOption o (¬ (MayAddList self.old name.now nil.now cons.now item)) (λ sort. MayAddList self.old name.now nil.now cons.now item × (sort ≡ next_sort self.old) × (self.new ≡ with_list self.old name.now nil.now cons.now item))) }
+        ensures kept { IfOk result (λ o. IfNone o (self.new ≡ self.old)) }
+        ensures err { OnErr result (self.new ≡ self.old) }
+        ensures extends { IsPrefix self.old self.new }
+        ensures distinct { HasDistinctNames self.new }
+        ensures sorts { HasDistinctSorts self.new }
+    {
+        if !self.may_add_list(name, nil, cons, item) {
+            return Ok(None);
+        }
+        let sort = self.push_list(name, nil, cons, item)?;
+        Ok(Some(sort))
+    }
+
+    fn is_small(&self, parts: &[Sort]) -> bool
+        ensures { IsTrue result ↔ (1 + sum_by (default_size self.now) parts.now ≤ 64) }
+    {
+        tuple_size(self.sizes.as_slice(), parts) <= MOST_NODES
+    }
+
+    fn may_add_tuple(&self, name: &str, make: &str, parts: &[Sort]) -> bool
+        ensures allowed { IsTrue result ↔ MayAddTuple self.now name.now make.now parts.now }
+        ensures distinct { HasDistinctNames self.now }
+        ensures sorts { HasDistinctSorts self.now }
+    {
+        self.is_free(name)
+            && self.is_free(make)
+            && name != make
+            && are_few(parts)
+            && are_sorts(self.sorts.len(), parts)
+            && self.is_small(parts)
+    }
+
+    fn push_tuple(&mut self, name: &str, make: &str, parts: &[Sort]) -> Result<Sort, NoMemory>
+        requires { MayAddTuple self.old name.now make.now parts.now }
+        ensures ok { IfOk result (λ sort. (sort ≡ next_sort self.old) × (self.new ≡ with_tuple self.old name.now make.now parts.now)) }
+        ensures err { OnErr result (self.new ≡ self.old) }
+        ensures distinct { OnOk result (HasDistinctNames self.new) }
+        ensures sorts { HasDistinctSorts self.new }
+    {
+        let alloc = *self.by_name.allocator();
+        let (sort, first, _) = self.next()?;
+        let size = tuple_size(self.sizes.as_slice(), parts);
+        let named = NamedSort {
+            name: Text::from_str(alloc, name)?,
+            shape: Shape::Tuple {
+                make: first,
+                parts: Items::from_slice(alloc, parts)?,
+            },
+        };
+        let args = Items::from_slice(alloc, parts)?;
+        let make = keyed(alloc, make, Kind::Tuple, args, sort)?;
+        self.push_one(named, size, make)?;
+        Ok(sort)
+    }
+
+    /// Declares the sort of tuples `name = make(parts..)`, adds its symbol after the others and gives
+    /// the sort. None: it may not be declared, since one of the two names is no name, is taken or is
+    /// given twice, the parts are not two to four, the sort of one is not there, or the default term
+    /// of the new sort has more than 64 nodes; the table is then as it was. NoMemory: as for
+    /// `add_list`.
+    ///
+    /// A default term is `0` for the natural numbers, the empty list for a list sort, and the tuple of
+    /// its parts' default terms for a tuple sort.
+    #[tactic(auto, using(crate::proofs::SymbolLaws::growth))]
+    pub fn add_tuple(
+        &mut self,
+        name: &str,
+        make: &str,
+        parts: &[Sort],
+    ) -> Result<Option<Sort>, NoMemory>
+        ensures added { IfOk result (λ o. MatchOption o (¬ (MayAddTuple self.old name.now make.now parts.now)) (λ sort. MayAddTuple self.old name.now make.now parts.now × (sort ≡ next_sort self.old) × (self.new ≡ with_tuple self.old name.now make.now parts.now))) }
+        ensures kept { IfOk result (λ o. IfNone o (self.new ≡ self.old)) }
+        ensures err { OnErr result (self.new ≡ self.old) }
+        ensures extends { IsPrefix self.old self.new }
+        ensures distinct { HasDistinctNames self.new }
+        ensures sorts { HasDistinctSorts self.new }
+    {
+        if !self.may_add_tuple(name, make, parts) {
+            return Ok(None);
+        }
+        let sort = self.push_tuple(name, make, parts)?;
+        Ok(Some(sort))
+    }
+
     /// The sort with this name: `nat` for the natural numbers, or that of a declared sort. None: no
     /// sort has it.
     pub fn find_sort(&self, name: &str) -> Option<Sort>
