@@ -1,7 +1,10 @@
 //! Expressions as texts: a term, a formula or an output is printed as the one text that stands for
-//! it, by the names of a scope.
+//! it, by the names of a scope. Nothing here reads a text yet, so nothing says that the text reads
+//! back.
 #![tactic(auto)]
 
+#[cfg(test)]
+mod examples;
 mod names;
 mod print_forms;
 mod print_outs;
