@@ -1,2 +1,4 @@
 pub mod Scopes
 pub mod Items
+pub mod Heights
+pub mod FormMachine

@@ -2,7 +2,10 @@
 //! it, by the names of a scope.
 #![tactic(auto)]
 
+mod form_frames;
+mod form_reader;
 mod items;
 mod scope;
+mod stack;
 
 pub use scope::Scope;
