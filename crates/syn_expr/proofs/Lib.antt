@@ -1,1 +1,2 @@
 mod FormFrames
+mod FormLevels

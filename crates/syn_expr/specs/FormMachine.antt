@@ -48,7 +48,7 @@ no_parts = record { forms = []; height = 0 }
 abbrev pub with_member : Parts → Tall → Parts
 with_member parts u = record { forms = parts.forms ++ u.form ∷ []; height = max parts.height u.height }
 
-abbrev chained : (List FormSyntax → FormSyntax) → List FormSyntax → ℕ → Tall → Option Tall
+abbrev pub chained : (List FormSyntax → FormSyntax) → List FormSyntax → ℕ → Tall → Option Tall
 chained node [] n u = Some u
 chained node (x ∷ xs) n u = built (node ((x ∷ xs) ++ u.form ∷ [])) (max n u.height)
 
@@ -116,7 +116,7 @@ not_next f out = wants false (record { bounds = f.bounds; nots = f.nots + 1; and
 abbrev pub open_next : Frame → List Frame → FormReader
 open_next f out = wants true fresh (f ∷ out)
 
-abbrev atom_layer : TermSyntax-F TermSyntax → Option FormSyntax
+abbrev pub atom_layer : TermSyntax-F TermSyntax → Option FormSyntax
 atom_layer (TermSyntax-F.Applied (head.Name r) args) = Some (form.Atom r args)
 atom_layer _ = None
 
@@ -152,7 +152,7 @@ abbrev pub arrow_next : Frame → List Frame → Tall → Option FormReader
 arrow_next f out u = option_map (λ v. wants false (record { bounds = f.bounds; nots = 0; ands = no_parts; ors = no_parts; lefts = f.lefts ++ v ∷ []; side = f.side }) out) (or_done f.ands f.ors u)
 
 -- `<->` stands at most once in a form
-abbrev both_at : Option Tall → Frame → List Frame → Tall → Option FormReader
+abbrev pub both_at : Option Tall → Frame → List Frame → Tall → Option FormReader
 both_at None f out u = option_map (λ v. wants false (record { bounds = f.bounds; nots = 0; ands = no_parts; ors = no_parts; lefts = []; side = Some v }) out) (imp_done f.ands f.ors f.lefts u)
 both_at (Some left) f out u = None
 
@@ -178,7 +178,7 @@ abbrev pub went_on : Frame → List Frame → Tall → Item → Option FormReade
 went_on f out u (item.Fixed m) = mark_after f out u m
 went_on f out u _ = None
 
-abbrev step_at : Option Tall → FormReader → Item → Option FormReader
+abbrev pub step_at : Option Tall → FormReader → Item → Option FormReader
 step_at None r i = begun r.first r.frame r.outer i
 step_at (Some u) r i = went_on r.frame r.outer u i
 
@@ -194,7 +194,7 @@ run (i ∷ is) r = option_and_then (run is) (step r i)
 abbrev pub start : FormReader
 start = wants true fresh []
 
-abbrev closed : Option Tall → Frame → List Frame → Option FormSyntax
+abbrev pub closed : Option Tall → Frame → List Frame → Option FormSyntax
 closed (Some u) f [] = option_map (λ v. v.form) (form_done f u)
 closed _ f out = None
 
