@@ -1,2 +1,4 @@
 mod FormFrames
 mod FormLevels
+mod FormSteps
+mod FormComplete
