@@ -102,6 +102,13 @@ bounded_some k f r e = by (judged f)
     by (low l) = let h : Some (k (tall f)) ≡ Some r = ap (option_map k) (sym (bounded-low f l)) ∙ e in (l, cc)
     by (high l) = let h : None ≡ Some r = ap (option_map k) (sym (bounded-high f l)) ∙ e in absurd (cc)
 
+pub bounded_then : {A : Type 0} (k : Tall → Option A) (f : FormSyntax) (r : A) → option_and_then k (bounded f) ≡ Some r → Low f × (k (tall f) ≡ Some r)
+bounded_then k f r e = by (judged f)
+  where
+    by : Judged f → Low f × (k (tall f) ≡ Some r)
+    by (low l) = (l, ap (option_and_then k) (sym (bounded-low f l)) ∙ e)
+    by (high l) = let h : None ≡ Some r = ap (option_and_then k) (sym (bounded-high f l)) ∙ e in absurd (cc)
+
 -- a part that is too high makes the whole too high
 through : (g : Tall → Option Tall) (f whole : FormSyntax) → height_of f ≤ height_of whole → g (tall f) ≡ bounded whole → option_and_then g (bounded f) ≡ bounded whole
 through g f whole le e = by (judged f)

@@ -2,3 +2,4 @@ mod FormFrames
 mod FormLevels
 mod FormSteps
 mod FormComplete
+mod FormSound
