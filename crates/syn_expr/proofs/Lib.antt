@@ -3,3 +3,4 @@ mod FormLevels
 mod FormSteps
 mod FormComplete
 mod FormSound
+mod FormExact
