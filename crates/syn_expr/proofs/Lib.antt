@@ -2,3 +2,9 @@ pub mod Pieces
 pub mod TermTexts
 pub mod FormTexts
 pub mod QFormTexts
+mod FormFrames
+mod FormLevels
+mod FormSteps
+mod FormComplete
+mod FormSound
+mod FormExact

@@ -1,3 +1,5 @@
 pub mod Scopes
 pub mod Items
 pub mod Places
+pub mod Heights
+pub mod FormMachine

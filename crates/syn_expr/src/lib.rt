@@ -5,6 +5,8 @@
 
 #[cfg(test)]
 mod examples;
+mod form_frames;
+mod form_reader;
 mod items;
 mod names;
 mod print_forms;
@@ -12,6 +14,7 @@ mod print_outs;
 mod print_qforms;
 mod print_terms;
 mod scope;
+mod stack;
 mod text;
 
 pub use print_forms::print_form;
