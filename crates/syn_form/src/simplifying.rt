@@ -5,6 +5,7 @@ ghost use Rattle.syn_term.specs.Same.{same_tree};
 ghost use Rattle.syn_form.specs.Same.{OfOneBank, same_out};
 ghost use Rattle.syn_form.specs.Simplification as rules;
 ghost use Rattle.syn_form.specs.Simplification.{simplified_form, simplified_out};
+ghost use Rattle.syn_form.specs.SimplificationLaws.{SimplifiesForm, SimplifiesOut};
 ghost use Rattle.syn_form.specs.Trees.{form_terms, out_terms};
 
 use crate::joins::{Junction, is_same, joined};
@@ -155,10 +156,13 @@ fn simple_out(alloc: Global, o: &Out) -> Result<Out, NoMemory>
 ///
 /// Two parts are the same where they are one tree, so the terms have to be of one bank. The work
 /// grows with the square of the number of members of one chain, and the recursion goes as deep as
-/// the tree. The one error is `NoMemory`.
+/// the tree. What it keeps, and what it never makes greater, is the record `SimplifiesForm`. The one
+/// error is `NoMemory`.
+#[tactic(auto, using(crate::proofs::Simplifies::simplifies_form_ok))]
 pub fn simplify(alloc: Global, f: &Form) -> Result<Form, NoMemory>
     requires { OfOneBank (form_terms f.now) }
     ensures value { IfOk result (λ g. g ≡ simplified_form f.now) }
+    ensures laws { IfOk result (SimplifiesForm f.now) }
 {
     simple(alloc, f)
 }
@@ -166,9 +170,11 @@ pub fn simplify(alloc: Global, f: &Form) -> Result<Form, NoMemory>
 /// The output simplified: its tests as by [`simplify`] and its arms first. `if true then U else V`
 /// is `U`, `if false then U else V` is `V`, and a choice between equal arms is the first. The one
 /// error is `NoMemory`.
+#[tactic(auto, using(crate::proofs::Simplifies::simplifies_out_ok))]
 pub fn simplify_out(alloc: Global, o: &Out) -> Result<Out, NoMemory>
     requires { OfOneBank (out_terms o.now) }
     ensures value { IfOk result (λ p. p ≡ simplified_out o.now) }
+    ensures laws { IfOk result (SimplifiesOut o.now) }
 {
     simple_out(alloc, o)
 }
