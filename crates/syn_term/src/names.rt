@@ -68,10 +68,12 @@ fn is_written(number: u32, text: &str) -> bool
     buffer.format(number) == text
 }
 
-// Reading takes a plus sign and zeros before a number, so what is read is printed again and compared.
-fn number_of(text: &str) -> Option<u32>
+/// The number that the text is in decimal, with no sign and no zero before others. None: it is no such
+/// number, or one from 2^32 on.
+pub fn decimal_number(text: &str) -> Option<u32>
     ensures { MatchOption result ((n : ℕ) → n < 2 ^ 32 → ¬ (text.now ≡ decimal n)) (λ n. (n < 2 ^ 32) × (text.now ≡ decimal n)) }
 {
+    // Parsing takes a plus sign and zeros before a number, so what is parsed is printed and compared.
     match text.parse::<u32>() {
         Err(_) => None,
         Ok(number) => {
@@ -87,7 +89,7 @@ fn number_of(text: &str) -> Option<u32>
 fn is_number(text: &str) -> bool
     ensures { IsTrue result ↔ IsNumber text.now }
 {
-    match number_of(text) {
+    match decimal_number(text) {
         None => false,
         Some(number) => 0 < number && number < NUMBER_END,
     }
