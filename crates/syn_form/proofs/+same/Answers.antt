@@ -1,4 +1,4 @@
-use Rattle.std.proofs.Common.{◌*◌, ◌<◌, refl, ◌∙◌, arith}
+use Rattle.std.proofs.Common.{◌*◌, ◌<◌, length, refl, ◌∙◌, arith}
 use Rattle.syn_term.proofs.Lists.{items_differ}
 use Rattle.syn_form.specs.Trees.{bare_form, form_nodes}
 use Rattle.syn_form.proofs.Fewer.{fewer_left, fewer_right, no_more}
@@ -34,7 +34,7 @@ trees::Form::same-returns-else-same-2 t c =
 pub form::same_forms-returns-then-not-same : goal.form::same_forms-returns-then-not-same
 form::same_forms-returns-then-not-same t c = (
   (λ e. absurd (cc)),
-  (λ e. absurd (items_differ bare_form bare_form _ _ _ _ _ c.index-fs-i.is c.index-gs-i.is c.loop-i-test.true (omega arith) (λ k. let h = c.same.ensures.1 k in cc) e)),
+  (λ e. absurd (items_differ bare_form bare_form _ _ _ _ _ c.index-fs-i.is c.index-gs-i.is (omega arith) (omega arith) (λ k. let h = c.same.ensures.1 k in cc) e)),
 )
 
 pub trees::Form::same-same-requires-in-Implies-Implies : goal.trees::Form::same-same-requires-in-Implies-Implies
@@ -51,6 +51,7 @@ trees::Form::same-same-requires-then-same-2 t c =
 
 pub form::same_forms-same-requires : goal.form::same_forms-same-requires
 form::same_forms-same-requires t c =
-    let most = no_more _ _ _ _ c.loop-i-test.true c.index-fs-i.is in
+    let within : c.loop-i.i < length c.args.fs.now = omega arith in
+    let most = no_more _ _ _ _ within c.index-fs-i.is in
     let less : 2 * form_nodes c.index-fs-i.result < t = omega arith in
-    (less, bank_member _ _ _ _ _ _ _ _ c.requires c.loop-i-test.true (omega arith) c.index-fs-i.is c.index-gs-i.is)
+    (less, bank_member _ _ _ _ _ _ _ _ c.requires within (omega arith) c.index-fs-i.is c.index-gs-i.is)
