@@ -5,6 +5,12 @@ pub mod Inductions
 pub mod Lists
 pub mod Shapes
 pub mod SimplifiedTerms
+pub mod SimplifiedTruth
+pub mod SimplifiedSize
+pub mod Nodes
+pub mod SimplifiedPlain
+pub mod SimplifiedTwice
+pub mod Simplifies
 pub mod Depths
 pub mod Chains
 pub mod Owned

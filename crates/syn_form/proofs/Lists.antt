@@ -1,6 +1,6 @@
 -- Which elements lists have that are made of others, and when each element of one list is in another.
 use Rattle.std.proofs.Common.{◌≡◌, ◌⊎◌, ℕ, zero, suc, ◌<◌, Bool, true, false, List, [], ◌∷◌, ◌++◌, Contains, All, map, length, get_or, cond, filter, refl, sym, ap, subst, arith}
-use Rattle.std.proofs.lemmas.List.Elements.{Contains-append_left, Contains-append_right, Contains-append_cases, All-contains}
+use Rattle.std.proofs.lemmas.List.Elements.{Contains-append_left, Contains-append_right, Contains-append_cases, Contains-get_or, All-nil, All-head, All-tail, All-append, All-contains}
 use Rattle.std.specs.List.{flat_map}
 use mathlib.Core.Logic.{inl, inr}
 
@@ -53,6 +53,14 @@ module _ {X Y : Type 0} (f : X → List Y) where
   all_of-map [] = refl
   all_of-map (x ∷ xs) = ap (λ (zs : List Y). f x ++ zs) (all_of-map xs)
 
+-- two lists in a row, the elements of each in another
+pub Contains-append_both : {X : Type 0} (xs ys vs ws : List X) → ((x : X) → Contains xs x → Contains vs x) → ((x : X) → Contains ys x → Contains ws x) → (x : X) → Contains (xs ++ ys) x → Contains (vs ++ ws) x
+Contains-append_both xs ys vs ws a b x c = go (Contains-append_cases xs ys x c)
+  where
+    go : Contains xs x ⊎ Contains ys x → Contains (vs ++ ws) x
+    go (inl h) = Contains-append_left vs ws x (a x h)
+    go (inr h) = Contains-append_right vs ws x (b x h)
+
 -- what a filter leaves was there before
 pub Contains-filter : {X : Type 0} (p : X → Bool) (xs : List X) (x : X) → Contains (filter p xs) x → Contains xs x
 Contains-filter p [] x c = c
@@ -71,3 +79,11 @@ pub flat_map_weaker : {X Y : Type 0} (f g : X → List Y) (xs : List X) → All 
 flat_map_weaker {X} {Y} f g xs sub y c =
     let p = Contains-flat_map f xs y c in
     Contains-flat_map_from g xs p.0 y p.1 (All-contains (λ (x : X). (w : Y) → Contains (f x) w → Contains (g x) w) xs p.0 sub p.1 y p.2)
+
+-- what holds of each element of a list holds of each element of a list that has no others
+pub All-within : {X : Type 0} (P : X → Type 0) (xs ys : List X) → ((x : X) → Contains xs x → Contains ys x) → All P ys → All P xs
+All-within P xs ys sub h k d lt = All-contains P ys (get_or xs k d) h (sub (get_or xs k d) (Contains-get_or xs k d lt))
+
+pub All-flat_map : {X Y : Type 0} (P : Y → Type 0) (f : X → List Y) (xs : List X) → All (λ x. All P (f x)) xs → All P (flat_map f xs)
+All-flat_map P f [] h = All-nil P
+All-flat_map {X} P f (x ∷ xs) h = All-append P (f x) (flat_map f xs) (All-head (λ (y : X). All P (f y)) x xs h) (All-flat_map P f xs (All-tail (λ (y : X). All P (f y)) x xs h))

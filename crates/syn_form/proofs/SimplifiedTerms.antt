@@ -16,7 +16,7 @@ use Rattle.syn_form.specs.Same.{same_form, OfOneBank}
 use Rattle.syn_form.specs.Simplification.{Junction, conjunction, disjunction, chain, neutral, deciding, opened, has_form, without_repeats, members_left, chain_of, joined, negated, implied, equated, chosen, simplified_form, simplified_form_step, simplified_out, simplified_out_step}
 use Rattle.syn_form.proofs.Equations.{fold-True, fold-False, fold-Atom, fold-Equal, fold-Not, fold-And, fold-Or, fold-Implies, fold-Give, fold-If}
 use Rattle.syn_form.proofs.Inductions.{by_form_cases, by_out_cases}
-use Rattle.syn_form.proofs.Lists.{none_in_nil, Contains-tail, Contains-along, flat_map_within, all_of-map, Contains-filter}
+use Rattle.syn_form.proofs.Lists.{none_in_nil, Contains-append_both, Contains-tail, Contains-along, flat_map_within, all_of-map, Contains-filter}
 use Rattle.syn_form.proofs.Shapes.{Negated, of_true, of_false, of_not, Opened, a_chain, single, Implied, left_true, left_false, right_true, right_false, Equated, Chosen, first, second, Joined, by_member, by_pair, open_still, negated_is, opened_is, implied_is, equated_is, chosen_is, joined_is}
 use Rattle.syn_form.proofs.Shapes as shape
 
@@ -118,11 +118,7 @@ equated-terms s t = equated_case s t (equated s t) (equated_is s t)
 
 -- two lists in a row, each among another
 pub Among-append : (xs ys vs ws : List TermTree) → Among xs vs → Among ys ws → Among (xs ++ ys) (vs ++ ws)
-Among-append xs ys vs ws a b t c = go (Contains-append_cases xs ys t c)
-  where
-    go : Contains xs t ⊎ Contains ys t → Contains (vs ++ ws) t
-    go (inl h) = Contains-append_left vs ws t (a t h)
-    go (inr h) = Contains-append_right vs ws t (b t h)
+Among-append xs ys vs ws a b = Contains-append_both xs ys vs ws a b
 
 pub Among-same : (xs ys : List TermTree) → xs ≡ ys → Among xs ys
 Among-same xs ys e t c = Contains-along xs ys t e c

@@ -6,3 +6,4 @@ pub mod Substitutions
 pub mod Simplification
 pub mod Truth
 pub mod Joining
+pub mod SimplificationLaws
