@@ -19,3 +19,4 @@ pub mod Fewer
 pub mod Members
 pub mod Banks
 pub mod Testing
+pub mod SignLaws

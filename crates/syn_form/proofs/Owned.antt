@@ -1,7 +1,7 @@
 -- Where the terms of two formulas are of one bank, those of their parts are too, and any two of them can be compared.
 use Rattle.std.proofs.Common.{◌≡◌, ℕ, zero, suc, ◌<◌, List, [], ◌∷◌, map, length, get_or, ◌++◌, All, sym, ◌∙◌, ap, subst, refl, arith}
 use Rattle.std.proofs.lemmas.List.Elements.{All-nil, All-cons, All-head, All-tail, All-append, All-get_or}
-use Rattle.syn_term.specs.Bank.{Belongs, Agree, Agree-belongs}
+use Rattle.syn_term.specs.Bank.{Kept, Belongs, new_bank, Agree, Agree-belongs}
 use Rattle.syn_term.specs.declared.sorts.SymId.{SymId}
 use Rattle.syn_term.specs.Terms.{TermTree}
 use Rattle.syn_form.specs.declared.trees.Form.TheVariants as form
@@ -119,3 +119,12 @@ module _ (o p : OutTree) (one : OfOneBank (out_terms o ++ out_terms p)) where
         parts_of_choices (out_terms a) (out_terms b)
         (λ P h. subst (λ (z : OutTree). All P (out_terms z)) (sym is_a) (All-right P (out_terms u) (out_terms v) (All-right P (form_terms f) (out_terms u ++ out_terms v) h)))
         (λ P h. subst (λ (z : OutTree). All P (out_terms z)) (sym is_b) (All-right P (out_terms x) (out_terms y) (All-right P (form_terms g) (out_terms x ++ out_terms y) h)))
+
+-- formulas without terms, and one output twice, are of one bank
+pub none_owned : (xs ys : List TermTree) → xs ≡ [] → ys ≡ [] → OfOneBank (xs ++ ys)
+none_owned xs ys e k = one_bank_of xs ys [] [] (λ P h. subst (All P) (sym e) h) (λ P h. subst (All P) (sym k) h) (new_bank, All-nil (Belongs new_bank))
+
+pub given_owned : (b : Kept) (t : TermTree) (p : OutTree) → Belongs b t → p ≡ out.Give t → OfOneBank (out_terms (out.Give t) ++ out_terms p)
+given_owned b t p h e =
+    let one : All (Belongs b) (t ∷ []) = All-cons (Belongs b) t [] h (All-nil (Belongs b)) in
+    (b, All-append (Belongs b) (out_terms (out.Give t)) (out_terms p) (subst (All (Belongs b)) (sym (out_terms-Give t)) one) (subst (All (Belongs b)) (sym (ap out_terms e ∙ out_terms-Give t)) one))

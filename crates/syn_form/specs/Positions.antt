@@ -1,6 +1,6 @@
 -- Positions in formulas and terms. A position is a list of child numbers, counted from 1: the argument of `not`, the
 -- members of `and` and `or`, the two sides of `->` and `=`, the arguments of an atom or a term.
-use Rattle.std.specs.Prelude.{ℕ, zero, suc, Bool, true, not, List, [], ◌∷◌, Option, None, Some, map, slice_get}
+use Rattle.std.specs.Prelude.{◌≡◌, ℕ, zero, suc, Bool, true, not, List, [], ◌∷◌, Option, None, Some, map, slice_get}
 use Rattle.std.specs.Option.{option_and_then}
 use Rattle.syn_term.specs.Terms.{TermTree, args_of}
 use Rattle.syn_form.specs.declared.trees.Form.{out-Form}
@@ -37,6 +37,10 @@ part_at p (suc k) = slice_get (parts_of p) k
 abbrev pub piece_at : List ℕ → Piece → Option Piece
 piece_at [] p = Some p
 piece_at (k ∷ ks) p = option_and_then (piece_at ks) (part_at p k)
+
+-- a formula stands at the position
+abbrev pub HasFormAt : List ℕ → FormTree → Type 0
+HasFormAt ks f = (g : FormTree) × (piece_at ks (formula f) ≡ Some (formula g))
 
 -- a part as it is answered, as the piece that it shows
 abbrev pub seen : Part → Piece

@@ -50,7 +50,7 @@ impl Form {
     }
 
     /// The k-th child, counted from 1; None exactly where there is none.
-    fn child(&self, k: u32) -> Option<Part<'_>>
+    pub(crate) fn child(&self, k: u32) -> Option<Part<'_>>
         ensures { option_map seen result ≡ part_at (formula self.now) k }
     {
         if k == 0 {
@@ -123,7 +123,7 @@ impl Form {
         }
     }
 
-    /// The depth, or `cap + 1` where it is more than `cap`; `true` and `false` have depth 1.
+    /// The depth, or `cap + 1` where it is more than `cap`; a formula without parts has depth 1.
     pub fn depth(&self, cap: u32) -> u64
         ensures { result ≡ min (form_depth self.now) (cap + 1) }
     {
@@ -188,15 +188,15 @@ impl Form {
 
 /// Whether the two lists have the same formulas, one by one.
 #[cycle(same)]
-fn same_forms(xs: &[Form], ys: &[Form]) -> bool
-    requires { OfOneBank (all_of (map form_terms xs.now) ++ all_of (map form_terms ys.now)) }
-    ensures { IsTrue result ↔ (map bare_form xs.now ≡ map bare_form ys.now) }
+fn same_forms(fs: &[Form], gs: &[Form]) -> bool
+    requires { OfOneBank (all_of (map form_terms fs.now) ++ all_of (map form_terms gs.now)) }
+    ensures { IsTrue result ↔ (map bare_form fs.now ≡ map bare_form gs.now) }
 {
-    if xs.len() != ys.len() {
+    if fs.len() != gs.len() {
         return false;
     }
-    for i in 0..xs.len() {
-        if !xs[i].same(&ys[i]) {
+    for i in 0..fs.len() {
+        if !fs[i].same(&gs[i]) {
             return false;
         }
     }

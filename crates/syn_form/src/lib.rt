@@ -7,10 +7,14 @@
 mod form;
 mod joins;
 mod output;
+mod signs;
 mod simplifying;
+#[cfg(test)]
+mod simplifying_tests;
 #[cfg(test)]
 mod tests;
 mod trees;
 
+pub use signs::polarity;
 pub use simplifying::{simplify, simplify_out};
 pub use trees::{Binder, Form, Mono, Out, Part, QForm, Side};

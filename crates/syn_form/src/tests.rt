@@ -1,413 +1,152 @@
-// Simplification of formulas that are written as short codes, each operation after its operands, and
-// of outputs with such tests. The atoms of codes have no arguments.
-ghost use Rattle.std.specs.Prelude.{◌≡◌, [], ◌∷◌, ◌++◌, IfOk, OnOk};
-ghost use Rattle.syn_term.specs.Bank.{Belongs, Extends};
-ghost use Rattle.syn_form.specs.Joining.{terms_of};
-ghost use Rattle.syn_form.specs.Same.{OfOneBank};
-ghost use Rattle.syn_form.specs.Trees.{form_terms, out_terms};
+// Each call once on its ordinary path, at the edges of its limits, and on large formulas.
+ghost use Rattle.std.specs.Prelude.{◌≡◌, [], IfOk};
+ghost use Rattle.syn_term.specs.Bank.{Belongs};
+ghost use Rattle.syn_form.specs.Trees.{form_terms};
 
-use crate::simplifying::{simplify, simplify_out};
-use crate::trees::{Form, Out};
+use crate::{Form, Out, Part, polarity};
 use sqlite_items::Items;
 use std::alloc::Global;
 use std::test::Fail;
-use syn_term::{Bank, Kind, NoMemory, Shared, Sort, Sym, SymId, Symbols, Term, Text};
+use syn_term::{Bank, NoMemory, Pos, Shared, Sort, SymId, Term, Var};
 
-fn leaf(alloc: Global, number: u32) -> Result<Form, NoMemory>
-    ensures { IfOk result (λ f. form_terms f ≡ []) }
+fn variable(alloc: Global, bank: &mut Bank, number: u32) -> Result<Term, NoMemory>
+    ensures { IfOk result (Belongs bank.new) }
 {
-    Ok(Form::Atom(SymId(number), Shared::new(alloc, Items::new(alloc))?))
+    let sort = Sort::Nat;
+    bank.var(alloc, Var { number, sort })
 }
 
-fn push(forms: &mut Items<Form>, f: Form) -> Result<(), Fail>
-    requires { form_terms f ≡ [] }
-    ensures { OnOk result (terms_of forms.new ≡ terms_of forms.old) }
-{
-    forms.push(f)?;
-    Ok(())
-}
-
-fn pop(forms: &mut Items<Form>) -> Result<Form, Fail>
-    ensures { IfOk result (λ f. forms.old ≡ forms.new ++ f ∷ []) }
-{
-    match forms.pop() {
-        None => Err(Fail::new("no formula")),
-        Some(f) => Ok(f),
-    }
-}
-
-fn pop_plain(forms: &mut Items<Form>) -> Result<Form, Fail>
-    requires { terms_of forms.old ≡ [] }
-    ensures { IfOk result (λ f. (form_terms f ≡ []) × (terms_of forms.new ≡ [])) }
-{
-    pop(forms)
-}
-
-fn negate(alloc: Global, forms: &mut Items<Form>) -> Result<(), Fail>
-    ensures { OnOk result (terms_of forms.new ≡ terms_of forms.old) }
-{
-    let f = pop(forms)?;
-    forms.push(Form::Not(Shared::new(alloc, f)?))?;
-    Ok(())
-}
-
-fn imply(alloc: Global, forms: &mut Items<Form>) -> Result<(), Fail>
-    ensures { OnOk result (terms_of forms.new ≡ terms_of forms.old) }
-{
-    let b = pop(forms)?;
-    let a = pop(forms)?;
-    forms.push(Form::Implies(Shared::new(alloc, a)?, Shared::new(alloc, b)?))?;
-    Ok(())
-}
-
-/// Takes the last `count` formulas.
-fn take_last(alloc: Global, forms: &mut Items<Form>, count: u8) -> Result<Items<Form>, Fail>
-    ensures { IfOk result (λ taken. forms.old ≡ forms.new ++ taken) }
-{
-    if count == 0 {
-        return Ok(Items::new(alloc));
-    }
-    let last = pop(forms)?;
-    let mut taken = take_last(alloc, forms, count - 1)?;
-    taken.push(last)?;
-    Ok(taken)
-}
-
-fn conjoin(alloc: Global, forms: &mut Items<Form>, count: u8) -> Result<(), Fail>
-    ensures { OnOk result (terms_of forms.new ≡ terms_of forms.old) }
-{
-    let members = take_last(alloc, forms, count)?;
-    forms.push(Form::And(Shared::new(alloc, members)?))?;
-    Ok(())
-}
-
-fn disjoin(alloc: Global, forms: &mut Items<Form>, count: u8) -> Result<(), Fail>
-    ensures { OnOk result (terms_of forms.new ≡ terms_of forms.old) }
-{
-    let members = take_last(alloc, forms, count)?;
-    forms.push(Form::Or(Shared::new(alloc, members)?))?;
-    Ok(())
-}
-
-/// One letter of a code: a formula without parts, or an operation on the last formulas.
-fn step(alloc: Global, forms: &mut Items<Form>, letter: u8) -> Result<(), Fail>
-    ensures { OnOk result (terms_of forms.new ≡ terms_of forms.old) }
-{
-    match letter {
-        b'T' => push(forms, Form::True),
-        b'F' => push(forms, Form::False),
-        b'A' => push(forms, leaf(alloc, 2)?),
-        b'B' => push(forms, leaf(alloc, 3)?),
-        b'C' => push(forms, leaf(alloc, 4)?),
-        b'!' => negate(alloc, forms),
-        b'>' => imply(alloc, forms),
-        b'|' => disjoin(alloc, forms, 2),
-        b'&' => conjoin(alloc, forms, 2),
-        b'3' => conjoin(alloc, forms, 3),
-        b'4' => conjoin(alloc, forms, 4),
-        _ => Err(Fail::new("no such letter")),
-    }
-}
-
-fn run(alloc: Global, forms: &mut Items<Form>, code: &[u8]) -> Result<(), Fail>
-    ensures { OnOk result (terms_of forms.new ≡ terms_of forms.old) }
-{
-    for letter in code {
-        step(alloc, forms, *letter)?;
-    }
-    Ok(())
-}
-
-fn form_of(alloc: Global, code: &str) -> Result<Form, Fail>
-    ensures { IfOk result (λ f. form_terms f ≡ []) }
-{
-    let mut forms = Items::new(alloc);
-    run(alloc, &mut forms, code.as_bytes())?;
-    pop_plain(&mut forms)
-}
-
-fn form_becomes(alloc: Global, f: &Form, want: &Form) -> Result<bool, Fail>
-    requires { OfOneBank (form_terms f.now ++ form_terms want.now) }
-{
-    Ok(simplify(alloc, f)?.same(want))
-}
-
-fn plain_becomes(alloc: Global, f: &Form, want: &Form) -> Result<bool, Fail>
-    requires f { form_terms f.now ≡ [] }
-    requires want { form_terms want.now ≡ [] }
-{
-    form_becomes(alloc, f, want)
-}
-
-/// Whether the formula of the first code, simplified, is that of the second.
-fn becomes(alloc: Global, code: &str, want: &str) -> Result<bool, Fail> {
-    let f = form_of(alloc, code)?;
-    let want = form_of(alloc, want)?;
-    plain_becomes(alloc, &f, &want)
-}
-
-#[test]
-fn simplifies_formulas(rt: HostRuntime) -> Result<(), Fail> {
-    let cases: [(&str, &str); 26] = [
-        ("TA>A!!&", "A"),
-        ("AA&", "A"),
-        ("AA|", "A"),
-        ("ABAA4", "AB&"),
-        ("AA!|", "T"),
-        ("A!A|", "T"),
-        ("AA!&", "F"),
-        ("A!A&", "F"),
-        ("ABA!3", "F"),
-        ("AT&!", "A!"),
-        ("AF|", "A"),
-        ("AF&", "F"),
-        ("TA|", "T"),
-        ("TT&", "T"),
-        ("AF>", "A!"),
-        ("A!F>", "A"),
-        ("FA>", "T"),
-        ("AT>", "T"),
-        ("AA>", "T"),
-        ("A!!B>", "AB>"),
-        ("ABCA!&&&", "F"),
-        ("ABCC!!&&&", "ABC3"),
-        ("ABCA|&&", "ABCA|3"),
-        ("ABAB&!3", "ABAB&!3"),
-        ("T!F|", "F"),
-        ("A", "A"),
-    ];
-    for (code, want) in cases {
-        assert!(rt; becomes(rt.alloc(), code, want)?);
-    }
-    Ok(())
-}
-
-fn repeat(alloc: Global, forms: &mut Items<Form>, letter: u8, count: u32) -> Result<(), Fail>
-    ensures { OnOk result (terms_of forms.new ≡ terms_of forms.old) }
-{
-    for _ in 0..count {
-        step(alloc, forms, letter)?;
-    }
-    Ok(())
-}
-
-/// `A -> (A -> .. -> B)` with so many arrows.
-fn tower(alloc: Global, forms: &mut Items<Form>, arrows: u32) -> Result<(), Fail>
-    ensures { OnOk result (terms_of forms.new ≡ terms_of forms.old) }
-{
-    repeat(alloc, forms, b'A', arrows)?;
-    step(alloc, forms, b'B')?;
-    repeat(alloc, forms, b'>', arrows)
-}
-
-fn towers(alloc: Global, forms: &mut Items<Form>) -> Result<(), Fail>
-    ensures { OnOk result (terms_of forms.new ≡ terms_of forms.old) }
-{
-    for k in 0..16 {
-        tower(alloc, forms, 2100 + k)?;
-    }
-    conjoin(alloc, forms, 16)
-}
-
-/// A formula of depth 2,400.
-fn deep(alloc: Global) -> Result<Form, Fail>
-    ensures { IfOk result (λ f. form_terms f ≡ []) }
-{
-    let mut forms = Items::new(alloc);
-    tower(alloc, &mut forms, 2399)?;
-    pop_plain(&mut forms)
-}
-
-/// A formula of over 65,536 nodes, a chain of 16 members.
-fn large(alloc: Global) -> Result<Form, Fail>
-    ensures { IfOk result (λ f. form_terms f ≡ []) }
-{
-    let mut forms = Items::new(alloc);
-    towers(alloc, &mut forms)?;
-    pop_plain(&mut forms)
-}
-
-#[test]
-fn simplifies_deep_and_large_formulas(rt: HostRuntime) -> Result<(), Fail> {
-    let alloc = rt.alloc();
-    let f = deep(alloc)?;
-    assert_eq!(rt; f.depth(5000), 2400);
-    assert!(rt; plain_becomes(alloc, &f, &f)?);
-    let f = large(alloc)?;
-    assert!(rt; f.size(65_536) > 65_536);
-    assert!(rt; plain_becomes(alloc, &f, &f)?);
-    Ok(())
-}
-
-fn declared(
-    alloc: Global,
-    syms: &mut Symbols,
-    name: &str,
-    kind: Kind,
-    args: &[Sort],
-    value: Option<Sort>,
-) -> Result<SymId, Fail> {
-    let sym = Sym {
-        name: Text::from_str(alloc, name)?,
-        kind,
-        args: Items::from_slice(alloc, args)?,
-        result: value,
-    };
-    match syms.add(sym)? {
-        None => Err(Fail::new("not added")),
-        Some(id) => Ok(id),
-    }
-}
-
-fn input(alloc: Global, syms: &Symbols, bank: &mut Bank, id: SymId) -> Result<Term, Fail>
-    ensures extends { Extends bank.old bank.new }
-    ensures belongs { IfOk result (Belongs bank.new) }
-{
-    match bank.app(alloc, syms, id, &[])? {
-        None => Err(Fail::new("no input")),
-        Some(term) => Ok(term),
-    }
-}
-
-/// The relation `le` and the inputs `a` and `b`, as terms of one bank.
-#[derive(Drop)]
-struct Bench {
-    le: SymId,
-    a: Term,
-    b: Term,
-}
-
-fn make_bench(alloc: Global) -> Result<Bench, Fail>
-    ensures { IfOk result (λ bench. OfOneBank (bench.a ∷ bench.b ∷ [])) }
-{
-    let mut syms = Symbols::new(alloc)?;
+/// `le(a, b) -> a = b`
+fn le_implies_equal(alloc: Global) -> Result<Form, NoMemory> {
     let mut bank = Bank::new();
-    let nat = Some(Sort::Nat);
-    let le = declared(
-        alloc,
-        &mut syms,
-        "le",
-        Kind::Rel,
-        &[Sort::Nat, Sort::Nat],
-        None,
-    )?;
-    let a = declared(alloc, &mut syms, "a", Kind::Input, &[], nat)?;
-    let b = declared(alloc, &mut syms, "b", Kind::Input, &[], nat)?;
-    let a = input(alloc, &syms, &mut bank, a)?;
-    let b = input(alloc, &syms, &mut bank, b)?;
-    Ok(Bench { le, a, b })
-}
-
-/// `le(a, b)`.
-fn le(alloc: Global, bench: &Bench) -> Result<Form, NoMemory>
-    ensures { IfOk result (λ f. form_terms f ≡ bench.now.a ∷ bench.now.b ∷ []) }
-{
+    let a = variable(alloc, &mut bank, 1)?;
+    let b = variable(alloc, &mut bank, 2)?;
     let mut args = Items::new(alloc);
-    args.push(bench.a.again()?)?;
-    args.push(bench.b.again()?)?;
-    Ok(Form::Atom(bench.le, Shared::new(alloc, args)?))
+    args.push(a.again()?)?;
+    args.push(b.again()?)?;
+    let le = Form::Atom(SymId(2), Shared::new(alloc, args)?);
+    let equal = Form::Equal(a, b);
+    Ok(Form::Implies(Shared::new(alloc, le)?, Shared::new(alloc, equal)?))
 }
 
-/// `(true -> le(a, b)) and not not le(a, b)`.
-fn twice(alloc: Global, bench: &Bench) -> Result<Form, NoMemory>
-    ensures { IfOk result (λ f. form_terms f ≡ bench.now.a ∷ bench.now.b ∷ bench.now.a ∷ bench.now.b ∷ []) }
-{
-    let one = Form::Implies(
-        Shared::new(alloc, Form::True)?,
-        Shared::new(alloc, le(alloc, bench)?)?,
-    );
-    let inner = Form::Not(Shared::new(alloc, le(alloc, bench)?)?);
-    let mut members = Items::new(alloc);
-    members.push(one)?;
-    members.push(Form::Not(Shared::new(alloc, inner)?))?;
-    Ok(Form::And(Shared::new(alloc, members)?))
+fn position(alloc: Global, steps: &[u32]) -> Result<Pos, NoMemory> {
+    let mut pos = Pos::root(alloc);
+    for k in steps {
+        pos.push(*k)?;
+    }
+    Ok(pos)
 }
 
-/// `a = a`.
-fn equality(bench: &Bench) -> Result<Form, NoMemory>
-    ensures { IfOk result (λ f. form_terms f ≡ bench.now.a ∷ bench.now.a ∷ []) }
-{
-    Ok(Form::Equal(bench.a.again()?, bench.a.again()?))
-}
-
-fn loses_repeats(alloc: Global, bench: &Bench) -> Result<bool, Fail>
-    requires { OfOneBank (bench.now.a ∷ bench.now.b ∷ []) }
-{
-    let f = twice(alloc, bench)?;
-    let want = le(alloc, bench)?;
-    form_becomes(alloc, &f, &want)
-}
-
-fn loses_equality(alloc: Global, bench: &Bench) -> Result<bool, Fail>
-    requires { OfOneBank (bench.now.a ∷ bench.now.b ∷ []) }
-{
-    let f = equality(bench)?;
-    form_becomes(alloc, &f, &Form::True)
+fn kind(part: Option<Part<'_>>) -> &'static str {
+    match part {
+        Some(Part::F(_)) => "formula",
+        Some(Part::T(_)) => "term",
+        None => "nothing",
+    }
 }
 
 #[test]
-fn simplifies_formulas_with_terms(rt: HostRuntime) -> Result<(), Fail> {
-    let bench = make_bench(rt.alloc())?;
-    assert!(rt; loses_repeats(rt.alloc(), &bench)?);
-    assert!(rt; loses_equality(rt.alloc(), &bench)?);
+fn finds_parts_and_signs(rt: HostRuntime) -> Result<(), Fail> {
+    let f = le_implies_equal(rt.alloc())?;
+    for (steps, part, sign) in [
+        (&[][..], "formula", Some(true)),
+        (&[0][..], "nothing", None),
+        (&[1][..], "formula", Some(false)),
+        (&[1, 0][..], "nothing", None),
+        (&[1, 1][..], "term", None),
+        (&[1, 1, 1][..], "nothing", None),
+        (&[1, 3][..], "nothing", None),
+        (&[2][..], "formula", Some(true)),
+        (&[2, 2][..], "term", None),
+        (&[3][..], "nothing", None),
+    ] {
+        let pos = position(rt.alloc(), steps)?;
+        assert_eq!(rt; (kind(f.at(&pos)), polarity(&f, &pos)), (part, sign));
+    }
     Ok(())
 }
 
-fn give(t: &Term) -> Result<Out, NoMemory>
-    ensures { IfOk result (λ o. out_terms o ≡ t.now ∷ []) }
-{
-    Ok(Out::Give(t.again()?))
+#[test]
+fn counts_shared_parts_as_often_as_they_stand(rt: HostRuntime) -> Result<(), Fail> {
+    let part = Shared::new(rt.alloc(), le_implies_equal(rt.alloc())?)?;
+    let f = Form::Implies(part.again()?, part);
+    for (cap, size, depth) in [
+        (0, 1, 1),
+        (1, 2, 2),
+        (3, 4, 4),
+        (13, 14, 4),
+        (14, 15, 4),
+        (15, 15, 4),
+    ] {
+        assert_eq!(rt; (f.size(cap), f.depth(cap)), (size, depth));
+    }
+    Ok(())
 }
 
-fn choice(alloc: Global, f: Form, u: Out, v: Out) -> Result<Out, NoMemory>
-    ensures { IfOk result (λ o. out_terms o ≡ form_terms f ++ (out_terms u ++ out_terms v)) }
+/// So many nodes one below the other: `not not .. not true`.
+fn tall(alloc: Global, nodes: u32) -> Result<Form, NoMemory>
+    ensures { IfOk result (λ f. form_terms f ≡ []) }
 {
-    Ok(Out::If(
-        Shared::new(alloc, f)?,
-        Shared::new(alloc, u)?,
-        Shared::new(alloc, v)?,
-    ))
+    let mut f = Form::True;
+    for _ in 1..nodes {
+        f = Form::Not(Shared::new(alloc, f)?);
+    }
+    Ok(f)
 }
 
-/// `if f then (if g then a else b) else a`.
-fn nested(alloc: Global, bench: &Bench, f: Form, g: Form) -> Result<Out, NoMemory>
-    requires f { form_terms f ≡ [] }
-    requires g { form_terms g ≡ [] }
-    ensures { IfOk result (λ o. out_terms o ≡ bench.now.a ∷ bench.now.b ∷ bench.now.a ∷ []) }
+/// A chain of so many nodes.
+fn wide(alloc: Global, nodes: u32) -> Result<Form, NoMemory>
+    ensures { IfOk result (λ f. form_terms f ≡ []) }
 {
-    let inner = choice(alloc, g, give(&bench.a)?, give(&bench.b)?)?;
-    choice(alloc, f, inner, give(&bench.a)?)
+    let mut all = Items::new(alloc);
+    for _ in 1..nodes {
+        all.push(Form::True)?;
+    }
+    Ok(Form::And(Shared::new(alloc, all)?))
 }
 
-fn gives(alloc: Global, o: &Out, t: &Term) -> Result<bool, Fail>
-    requires { OfOneBank (out_terms o.now ++ t.now ∷ []) }
+/// Whether the two are one tree, which they can be asked where they have no terms.
+fn one_tree(f: &Form, g: &Form) -> bool
+    requires first { form_terms f.now ≡ [] }
+    requires second { form_terms g.now ≡ [] }
 {
-    Ok(simplify_out(alloc, o)?.same(&give(t)?))
-}
-
-/// Whether the output by the two tests, simplified, gives `a` alone.
-fn gives_first(alloc: Global, bench: &Bench, f: &str, g: &str) -> Result<bool, Fail>
-    requires { OfOneBank (bench.now.a ∷ bench.now.b ∷ []) }
-{
-    let o = nested(alloc, bench, form_of(alloc, f)?, form_of(alloc, g)?)?;
-    gives(alloc, &o, &bench.a)
+    f.same(g)
 }
 
 #[test]
-fn simplifies_outputs(rt: HostRuntime) -> Result<(), Fail> {
-    let bench = make_bench(rt.alloc())?;
-    let cases = [
-        ("A", "T", true),
-        ("T", "T", true),
-        ("AA!|", "T!!", true),
-        ("F", "A", true),
-        ("AA!&", "B", true),
-        ("T", "F", false),
-        ("T", "A", false),
-        ("A", "F", false),
-    ];
-    for (f, g, want) in cases {
-        assert!(rt; gives_first(rt.alloc(), &bench, f, g)? == want);
-    }
+fn measures_and_compares_large_formulas(rt: HostRuntime) -> Result<(), Fail> {
+    let alloc = rt.alloc();
+    let t = tall(alloc, 2_400)?;
+    assert_eq!(rt; (t.size(65_536), t.depth(65_536)), (2_400, 2_400));
+    let u = tall(alloc, 2_400)?;
+    let v = tall(alloc, 2_399)?;
+    assert_eq!(rt; (one_tree(&t, &u), one_tree(&t, &v)), (true, false));
+    let w = wide(alloc, 65_536)?;
+    assert_eq!(rt; (w.size(65_536), w.depth(65_536)), (65_536, 2));
+    let x = wide(alloc, 65_536)?;
+    let y = wide(alloc, 65_535)?;
+    assert_eq!(rt; (one_tree(&w, &x), one_tree(&w, &y)), (true, false));
+    Ok(())
+}
+
+/// Whether an output that gives this term and the same output once more are one tree.
+fn given_again(bank: &Bank, t: Term) -> Result<bool, NoMemory>
+    requires { Belongs bank.now t }
+{
+    let o = Out::Give(t);
+    let p = o.again()?;
+    Ok(o.same(&p))
+}
+
+#[test]
+fn measures_and_compares_outputs(rt: HostRuntime) -> Result<(), Fail> {
+    let alloc = rt.alloc();
+    let mut bank = Bank::new();
+    let a = variable(alloc, &mut bank, 1)?;
+    let arm = Shared::new(alloc, Out::Give(a.again()?))?;
+    let o = Out::If(Shared::new(alloc, Form::True)?, arm.again()?, arm);
+    assert_eq!(rt; (o.size(0), o.size(2), o.size(3), o.size(4)), (1, 3, 4, 4));
+    assert_eq!(rt; (o.depth(0), o.depth(1), o.depth(2)), (1, 2, 2));
+    assert!(rt; given_again(&bank, a)?);
     Ok(())
 }

@@ -34,7 +34,7 @@ trees::Form::same-returns-else-same-2 t c =
 pub form::same_forms-returns-then-not-same : goal.form::same_forms-returns-then-not-same
 form::same_forms-returns-then-not-same t c = (
   (λ e. absurd (cc)),
-  (λ e. absurd (items_differ bare_form bare_form _ _ _ _ _ c.index-xs-i.is c.index-ys-i.is c.loop-i-test.true (omega arith) (λ k. let h = c.same.ensures.1 k in cc) e)),
+  (λ e. absurd (items_differ bare_form bare_form _ _ _ _ _ c.index-fs-i.is c.index-gs-i.is c.loop-i-test.true (omega arith) (λ k. let h = c.same.ensures.1 k in cc) e)),
 )
 
 pub trees::Form::same-same-requires-in-Implies-Implies : goal.trees::Form::same-same-requires-in-Implies-Implies
@@ -51,6 +51,6 @@ trees::Form::same-same-requires-then-same-2 t c =
 
 pub form::same_forms-same-requires : goal.form::same_forms-same-requires
 form::same_forms-same-requires t c =
-    let most = no_more _ _ _ _ c.loop-i-test.true c.index-xs-i.is in
-    let less : 2 * form_nodes c.index-xs-i.result < t = omega arith in
-    (less, bank_member _ _ _ _ _ _ _ _ c.requires c.loop-i-test.true (omega arith) c.index-xs-i.is c.index-ys-i.is)
+    let most = no_more _ _ _ _ c.loop-i-test.true c.index-fs-i.is in
+    let less : 2 * form_nodes c.index-fs-i.result < t = omega arith in
+    (less, bank_member _ _ _ _ _ _ _ _ c.requires c.loop-i-test.true (omega arith) c.index-fs-i.is c.index-gs-i.is)

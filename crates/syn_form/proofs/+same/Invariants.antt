@@ -6,7 +6,7 @@ abbrev pub decreases-trees::Form::same : goal.decreases-trees::Form::same
 decreases-trees::Form::same l = 2 * form_nodes l.self.now
 
 abbrev pub decreases-form::same_forms : goal.decreases-form::same_forms
-decreases-form::same_forms l = 2 * sum (map form_nodes l.xs.now) + 1
+decreases-form::same_forms l = 2 * sum (map form_nodes l.fs.now) + 1
 
 abbrev pub invariant-form::same_forms-loop-i : goal.invariant-form::same_forms-loop-i
-invariant-form::same_forms-loop-i l = map bare_form (take l.i l.xs) ≡ map bare_form (take l.i l.ys)
+invariant-form::same_forms-loop-i l = map bare_form (take l.i l.fs) ≡ map bare_form (take l.i l.gs)
