@@ -142,8 +142,8 @@ fn simple_out(alloc: Global, o: &Out) -> Result<Out, NoMemory>
     }
 }
 
-/// The formula simplified from the inside out: the parts of each connective first, then by these
-/// rules, which keep the formula's truth.
+/// The formula simplified from the inside out: the parts of each connective first, then the
+/// connective by these rules.
 ///
 /// - In `and`, a member that is itself an `and` gives its members in place; `true` is dropped, and
 ///   so is each later repeat of a member. `false`, or a formula and its negation both there, make
