@@ -437,3 +437,164 @@ pub(crate) fn form_of_items(
         Some(reader) => ended(alloc, reader),
     }
 }
+
+#[cfg(test)]
+mod tests {
+    use super::*;
+    use std::test::Fail;
+    use syn_term::Text;
+
+    /// An item for a byte: marks by signs of one byte, `=` an equality, `A` and `E` quantifiers, a
+    /// number as a term that is no atom, and all else an atom.
+    fn item(alloc: Global, sign: char) -> Result<Item, NoMemory> {
+        let item = match sign {
+            't' => Item::Fixed(Mark::True),
+            'f' => Item::Fixed(Mark::False),
+            '!' => Item::Fixed(Mark::Not),
+            '&' => Item::Fixed(Mark::And),
+            '|' => Item::Fixed(Mark::Or),
+            '>' => Item::Fixed(Mark::Arrow),
+            '~' => Item::Fixed(Mark::BothWays),
+            '(' => Item::Fixed(Mark::Open),
+            ')' => Item::Fixed(Mark::Close),
+            ';' => Item::Fixed(Mark::Then),
+            '=' => Item::Equal(TermSyntax::Number(1), TermSyntax::Number(2)),
+            '0' => Item::Term(TermSyntax::Number(0)),
+            'A' => Item::Quantifier(Quantifier::All, Items::new(alloc)),
+            'E' => Item::Quantifier(Quantifier::Exists, Items::new(alloc)),
+            _ => {
+                let mut name = String::new(alloc);
+                name.push(sign)?;
+                let name = HeadName::Name(Text::from_str(alloc, name.as_str())?);
+                Item::Term(TermSyntax::Applied(name, Items::new(alloc)))
+            }
+        };
+        Ok(item)
+    }
+
+    fn sign_of(f: &FormSyntax) -> char {
+        match f {
+            FormSyntax::True => 't',
+            FormSyntax::False => 'f',
+            FormSyntax::Atom(_, _) => 'a',
+            FormSyntax::Equal(_, _) => '=',
+            FormSyntax::Not(_) => '!',
+            FormSyntax::And(_) => '&',
+            FormSyntax::Or(_) => '|',
+            FormSyntax::Implies(_, _) => '>',
+            FormSyntax::BothWays(_, _) => '~',
+            FormSyntax::Quantified(Quantifier::All, _, _) => 'A',
+            FormSyntax::Quantified(Quantifier::Exists, _, _) => 'E',
+        }
+    }
+
+    /// The tree with each chain and each arrow in brackets, by the same signs.
+    fn shape(f: &FormSyntax, out: &mut String) -> Result<(), NoMemory> {
+        match f {
+            FormSyntax::Atom(name, _) => out.push_str(name.as_str())?,
+            FormSyntax::Not(a) | FormSyntax::Quantified(_, _, a) => {
+                out.push(sign_of(f))?;
+                shape(a.get(), out)?;
+            }
+            FormSyntax::And(all) | FormSyntax::Or(all) => {
+                out.push('[')?;
+                for member in all.as_slice() {
+                    shape(member, out)?;
+                    out.push(sign_of(f))?;
+                }
+                out.push(']')?;
+            }
+            FormSyntax::Implies(a, b) | FormSyntax::BothWays(a, b) => {
+                out.push('[')?;
+                shape(a.get(), out)?;
+                out.push(sign_of(f))?;
+                shape(b.get(), out)?;
+                out.push(']')?;
+            }
+            _ => out.push(sign_of(f))?,
+        }
+        Ok(())
+    }
+
+    /// The shape of what the signs are read as; `none` where they are no formula.
+    fn read(alloc: Global, signs: &str) -> Result<String, NoMemory> {
+        let mut items = Items::new(alloc);
+        for sign in signs.chars() {
+            items.push(item(alloc, sign)?)?;
+        }
+        let mut out = String::new(alloc);
+        match form_of_items(alloc, items)? {
+            None => out.push_str("none")?,
+            Some(f) => shape(&f, &mut out)?,
+        }
+        Ok(out)
+    }
+
+    /// Whether the marks `before`, each so many times, then `true` and the marks `after` are a formula.
+    fn reads_round(
+        alloc: Global,
+        before: Mark,
+        after: Option<Mark>,
+        times: u32,
+    ) -> Result<bool, NoMemory> {
+        let mut items = Items::new(alloc);
+        for _ in 0..times {
+            items.push(Item::Fixed(before))?;
+        }
+        items.push(Item::Fixed(Mark::True))?;
+        if let Some(mark) = after {
+            for _ in 0..times {
+                items.push(Item::Fixed(mark))?;
+            }
+        }
+        Ok(form_of_items(alloc, items)?.is_some())
+    }
+
+    #[test]
+    fn reads_by_precedence(rt: HostRuntime) -> Result<(), Fail> {
+        let cases = [
+            ("a>(b|c&!d)", "[a>[b|[c&!d&]|]]"),
+            ("=>b|c&!!d", "[=>[b|[c&!!d&]|]]"),
+            ("a>b>c", "[a>[b>c]]"),
+            ("(a>b)>c", "[[a>b]>c]"),
+            ("a&b&(c&d)", "[a&b&[c&d&]&]"),
+            ("a~b>c", "[a~[b>c]]"),
+            ("a~b~c", "none"),
+            ("a~(b~c)", "[a~[b~c]]"),
+            ("a&b|c", "[[a&b&]|c|]"),
+            ("a&(b|c)", "[a&[b|c|]&]"),
+            ("AEa~b", "AE[a~b]"),
+            ("a&Ab", "none"),
+            ("!Ab", "none"),
+            ("a~Ab", "none"),
+            ("a&(Ab>c)|d", "[[a&A[b>c]&]|d|]"),
+            ("t|f", "[t|f|]"),
+            ("", "none"),
+            ("a&", "none"),
+            ("ab", "none"),
+            ("(a", "none"),
+            ("a)", "none"),
+            ("()", "none"),
+            ("0", "none"),
+            ("a;", "none"),
+        ];
+        for (signs, want) in cases {
+            let got = read(rt.alloc(), signs)?;
+            assert_eq!(rt; got.as_str(), want, "at {signs}");
+        }
+        Ok(())
+    }
+
+    #[test]
+    fn reads_up_to_the_limit(rt: HostRuntime) -> Result<(), Fail> {
+        assert!(rt; reads_round(rt.alloc(), Mark::Not, None, 1_263)?);
+        assert!(rt; !reads_round(rt.alloc(), Mark::Not, None, 1_264)?);
+        Ok(())
+    }
+
+    #[test]
+    fn reads_many_brackets(rt: HostRuntime) -> Result<(), Fail> {
+        assert!(rt; reads_round(rt.alloc(), Mark::Open, Some(Mark::Close), 1_000_000)?);
+        Ok(())
+    }
+}
