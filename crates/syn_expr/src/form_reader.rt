@@ -109,30 +109,12 @@ fn quantifier_next(
     if !first {
         return Ok(None);
     }
-    let Frame {
-        mut bounds,
-        nots,
-        ands,
-        ors,
-        lefts,
-        side,
-    } = frame;
-    bounds.push(Bound {
+    let mut frame = frame;
+    frame.bounds.push(Bound {
         quantifier,
         binders,
     })?;
-    Ok(Some(wants(
-        true,
-        Frame {
-            bounds,
-            nots,
-            ands,
-            ors,
-            lefts,
-            side,
-        },
-        outer,
-    )))
+    Ok(Some(wants(true, frame, outer)))
 }
 
 /// One `not` more. A number of them that no counter holds is told as want of memory.
@@ -192,27 +174,13 @@ fn begun(
 fn and_next(frame: Frame, outer: Stack<Frame>, u: Tall) -> Result<FormReader, NoMemory>
     ensures { IfOk result (λ r. r ≡ machine.and_next frame outer u) }
 {
-    let Frame {
-        bounds,
-        nots: _,
+    let ands = with_member(frame.ands, u)?;
+    let frame = Frame {
+        nots: 0,
         ands,
-        ors,
-        lefts,
-        side,
-    } = frame;
-    let ands = with_member(ands, u)?;
-    Ok(wants(
-        false,
-        Frame {
-            bounds,
-            nots: 0,
-            ands,
-            ors,
-            lefts,
-            side,
-        },
-        outer,
-    ))
+        ..frame
+    };
+    Ok(wants(false, frame, outer))
 }
 
 fn or_next(
@@ -223,31 +191,17 @@ fn or_next(
 ) -> Result<Option<FormReader>, NoMemory>
     ensures { IfOk result (λ o. o ≡ machine.or_next frame outer u) }
 {
-    let Frame {
-        bounds,
-        nots: _,
-        ands,
-        ors,
-        lefts,
-        side,
-    } = frame;
-    let Some(v) = chain_and(ands, u)? else {
+    let Some(v) = chain_and(frame.ands, u)? else {
         return Ok(None);
     };
-    let ors = with_member(ors, v)?;
-    let ands = no_parts(alloc);
-    Ok(Some(wants(
-        false,
-        Frame {
-            bounds,
-            nots: 0,
-            ands,
-            ors,
-            lefts,
-            side,
-        },
-        outer,
-    )))
+    let ors = with_member(frame.ors, v)?;
+    let frame = Frame {
+        nots: 0,
+        ands: no_parts(alloc),
+        ors,
+        ..frame
+    };
+    Ok(Some(wants(false, frame, outer)))
 }
 
 fn arrow_next(
@@ -258,31 +212,18 @@ fn arrow_next(
 ) -> Result<Option<FormReader>, NoMemory>
     ensures { IfOk result (λ o. o ≡ machine.arrow_next frame outer u) }
 {
-    let Frame {
-        bounds,
-        nots: _,
-        ands,
-        ors,
-        mut lefts,
-        side,
-    } = frame;
-    let Some(v) = or_done(ands, ors, u)? else {
+    let Some(v) = or_done(frame.ands, frame.ors, u)? else {
         return Ok(None);
     };
+    let mut lefts = frame.lefts;
     lefts.push(v)?;
-    let (ands, ors) = (no_parts(alloc), no_parts(alloc));
-    Ok(Some(wants(
-        false,
-        Frame {
-            bounds,
-            nots: 0,
-            ands,
-            ors,
-            lefts,
-            side,
-        },
-        outer,
-    )))
+    let frame = Frame {
+        bounds: frame.bounds,
+        lefts,
+        side: frame.side,
+        ..fresh(alloc)
+    };
+    Ok(Some(wants(false, frame, outer)))
 }
 
 /// `<->` stands at most once in a form.
@@ -294,23 +235,16 @@ fn both_next(
 ) -> Result<Option<FormReader>, NoMemory>
     ensures { IfOk result (λ o. o ≡ machine.both_next frame outer u) }
 {
-    let Frame {
-        bounds,
-        nots: _,
-        ands,
-        ors,
-        lefts,
-        side,
-    } = frame;
-    if side.is_some() {
+    if frame.side.is_some() {
         return Ok(None);
     }
-    let Some(v) = imp_done(alloc, ands, ors, lefts, u)? else {
+    let Some(v) = imp_done(alloc, frame.ands, frame.ors, frame.lefts, u)? else {
         return Ok(None);
     };
+    let side = Some(Boxed::new(alloc, v)?);
     let frame = Frame {
-        bounds,
-        side: Some(Boxed::new(alloc, v)?),
+        bounds: frame.bounds,
+        side,
         ..fresh(alloc)
     };
     Ok(Some(wants(false, frame, outer)))
