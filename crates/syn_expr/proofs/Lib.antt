@@ -4,3 +4,4 @@ mod FormSteps
 mod FormComplete
 mod FormSound
 mod FormExact
+mod FormRuns
