@@ -1,6 +1,6 @@
 -- The heights of syntax trees, and what the reader makes at each level where it holds the syntax trees of readings: the syntax
 -- tree of the longer reading, or none where that is too high.
-use Rattle.std.proofs.Common.{◌≡◌, ℕ, zero, suc, ◌+◌, ◌≤◌, ◌<◌, max, nat_lt, nat_le, Bool, true, false, cond, List, [], ◌∷◌, ◌++◌, map, Option, None, Some, option_and_then, option_map, refl, sym, ◌∙◌, ap, subst, arith, le_trans}
+use Rattle.std.proofs.Common.{◌≡◌, ℕ, zero, suc, ◌+◌, ◌≤◌, ◌<◌, max, nat_lt, nat_le, Bool, true, false, cond, List, [], ◌∷◌, ◌++◌, map, Option, None, Some, option_and_then, option_map, refl, sym, ◌∙◌, ap, arith}
 use Rattle.std.proofs.lemmas.Bool.Decides.{nat_tests}
 use denote.Hole.Carrier.{roll}
 use Rattle.syn_term.specs.Terms.{greatest}
@@ -11,13 +11,14 @@ use Rattle.syn_form.specs.declared.syntax.FormSyntax.{FormSyntax, roll-FormSynta
 use Rattle.syn_form.specs.declared.syntax.FormSyntax.TheOpen.{FormSyntax-F}
 use Rattle.syn_form.specs.declared.syntax.FormSyntax.TheVariants as form
 use Rattle.syn_form.specs.declared.syntax.FormSyntax.TheViews as view
-use Rattle.syn_form.specs.Grammar.{UnaryText, ConjText, DisjText, ImpText, FormText, truth, falsity, atom, equality, no, bracket, one_unary, and_also, one_conj, or_also, one_disj, implies, one_imp, both_ways, quantified, syntax_of_unary, members_of_conj, syntax_of_conj, members_of_disj, syntax_of_disj, syntax_of_imp, syntax_of_form}
+use Rattle.syn_form.specs.Grammar.{UnaryText, ConjText, DisjText, ImpText, FormText, no, one_unary, and_also, one_conj, or_also, one_disj, implies, one_imp, both_ways, quantified, syntax_of_unary, members_of_conj, syntax_of_conj, members_of_disj, syntax_of_disj, syntax_of_imp, syntax_of_form}
 use Rattle.syn_expr.specs.declared.form_frames.Tall.{Tall}
 use Rattle.syn_expr.specs.declared.form_frames.Parts.{Parts}
 use Rattle.syn_expr.specs.declared.form_frames.Bound.{Bound}
 use Rattle.syn_expr.specs.declared.form_frames.Frame.{Frame}
 use Rattle.syn_expr.specs.Heights.{height_of, height_step, max_height, Low}
 use Rattle.syn_expr.specs.FormMachine.{built, not_of, implies_of, both_of, quantified_of, negated, no_parts, with_member, chained, chain_and, chain_or, chain_imp, sided, under, or_done, imp_done, form_done}
+use Rattle.syn_expr.proofs.FormFrames.{and_then-and_then, and_then-some}
 
 -- the heights, case by case
 pub height-True : height_of form.True ≡ 1
@@ -128,14 +129,6 @@ built-at f n e (high l) =
 
 built-is : (f : FormSyntax) (n : ℕ) → height_of f ≡ 1 + n → built f n ≡ bounded f
 built-is f n e = built-at f n e (judged f)
-
-and_then-and_then : {A B C : Type 0} (g : B → Option C) (f : A → Option B) (o : Option A) → option_and_then g (option_and_then f o) ≡ option_and_then (λ x. option_and_then g (f x)) o
-and_then-and_then g f None = refl
-and_then-and_then g f (Some x) = refl
-
-and_then-some : {A : Type 0} (o : Option A) → option_and_then (λ (x : A). Some x) o ≡ o
-and_then-some None = refl
-and_then-some (Some x) = refl
 
 -- `not`s round a unary
 abbrev pub no_times : ℕ → UnaryText → UnaryText
@@ -286,9 +279,6 @@ abbrev pub frame_of : ℕ → Held → Frame
 frame_of n h = record { bounds = h.bounds; nots = n; ands = conj_parts h.conj; ors = disj_parts h.disj; lefts = map tall_disj h.lefts; side = option_map tall_imp h.side }
 
 module _ (h : Held) (u : UnaryText) (l : Low (syntax_of_unary u)) where
-  abbrev last : Tall
-  last = tall (syntax_of_unary u)
-
   pub and_done-is : chain_and (conj_parts h.conj) (tall (syntax_of_unary u)) ≡ bounded (syntax_of_conj (conj_of h u))
   and_done-is = sym (ap (option_and_then (chain_and (conj_parts h.conj))) (bounded-low (syntax_of_unary u) l)) ∙ conj-bounded h.conj u
 
