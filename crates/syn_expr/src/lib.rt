@@ -5,6 +5,7 @@
 
 #[cfg(test)]
 mod examples;
+mod binding;
 mod form_frames;
 mod form_reader;
 mod items;
