@@ -1,6 +1,6 @@
 -- The heights of syntax trees, and what the reader makes at each level where it holds the syntax trees of readings: the syntax
 -- tree of the longer reading, or none where that is too high.
-use Rattle.std.proofs.Common.{◌≡◌, ℕ, zero, suc, ◌+◌, ◌≤◌, ◌<◌, max, nat_lt, nat_le, Bool, true, false, cond, List, [], ◌∷◌, ◌++◌, map, Option, None, Some, option_and_then, option_map, refl, sym, ◌∙◌, ap, subst, arith, le_trans}
+use Rattle.std.proofs.Common.{◌≡◌, ℕ, zero, suc, ◌+◌, ◌≤◌, ◌<◌, max, nat_lt, nat_le, Bool, true, false, cond, List, [], ◌∷◌, ◌++◌, map, Option, None, Some, option_and_then, option_map, refl, sym, ◌∙◌, ap, arith}
 use Rattle.std.proofs.lemmas.Bool.Decides.{nat_tests}
 use denote.Hole.Carrier.{roll}
 use Rattle.syn_term.specs.Terms.{greatest}
@@ -11,7 +11,7 @@ use Rattle.syn_form.specs.declared.syntax.FormSyntax.{FormSyntax, roll-FormSynta
 use Rattle.syn_form.specs.declared.syntax.FormSyntax.TheOpen.{FormSyntax-F}
 use Rattle.syn_form.specs.declared.syntax.FormSyntax.TheVariants as form
 use Rattle.syn_form.specs.declared.syntax.FormSyntax.TheViews as view
-use Rattle.syn_form.specs.Grammar.{UnaryText, ConjText, DisjText, ImpText, FormText, truth, falsity, atom, equality, no, bracket, one_unary, and_also, one_conj, or_also, one_disj, implies, one_imp, both_ways, quantified, syntax_of_unary, members_of_conj, syntax_of_conj, members_of_disj, syntax_of_disj, syntax_of_imp, syntax_of_form}
+use Rattle.syn_form.specs.Grammar.{UnaryText, ConjText, DisjText, ImpText, FormText, no, one_unary, and_also, one_conj, or_also, one_disj, implies, one_imp, both_ways, quantified, syntax_of_unary, members_of_conj, syntax_of_conj, members_of_disj, syntax_of_disj, syntax_of_imp, syntax_of_form}
 use Rattle.syn_expr.specs.declared.form_frames.Tall.{Tall}
 use Rattle.syn_expr.specs.declared.form_frames.Parts.{Parts}
 use Rattle.syn_expr.specs.declared.form_frames.Bound.{Bound}

@@ -1,5 +1,5 @@
 -- Whatever the reader of formulas reads is a reading of the grammar: the items read so far are the items of what it holds.
-use Rattle.std.proofs.Common.{◌≡◌, ℕ, zero, suc, ◌+◌, ◌≤◌, Bool, true, false, List, [], ◌∷◌, ◌++◌, map, Option, None, Some, option_and_then, option_map, MatchOption, refl, sym, ◌∙◌, ap, subst, subst₂, arith, rules, append_assoc, append-nil}
+use Rattle.std.proofs.Common.{◌≡◌, ℕ, zero, suc, ◌+◌, ◌≤◌, Bool, true, false, List, [], ◌∷◌, ◌++◌, map, Option, None, Some, option_map, refl, sym, ◌∙◌, ap, subst, subst₂, arith, append_assoc, append-nil}
 use Rattle.std.proofs.lemmas.Option.{option_and_then_some}
 use denote.Hole.Carrier.{roll}
 use Rattle.syn_form.specs.declared.syntax.Mark.{Mark}
@@ -12,7 +12,7 @@ use Rattle.syn_form.specs.declared.syntax.TermSyntax.{TermSyntax, out-TermSyntax
 use Rattle.syn_form.specs.declared.syntax.TermSyntax.TheOpen.{TermSyntax-F}
 use Rattle.syn_form.specs.declared.syntax.TermSyntax.TheViews as term_view
 use Rattle.syn_form.specs.declared.syntax.HeadName.TheVariants as head
-use Rattle.syn_form.specs.Grammar.{UnaryText, ConjText, DisjText, ImpText, FormText, truth, falsity, atom, equality, no, bracket, one_unary, and_also, one_conj, or_also, one_disj, implies, one_imp, both_ways, quantified, syntax_of_unary, syntax_of_conj, syntax_of_disj, syntax_of_imp, syntax_of_form}
+use Rattle.syn_form.specs.Grammar.{UnaryText, ConjText, DisjText, ImpText, FormText, truth, falsity, atom, equality, no, bracket, one_disj, syntax_of_unary, syntax_of_conj, syntax_of_disj, syntax_of_imp, syntax_of_form}
 use Rattle.syn_expr.specs.declared.items.Item.{Item}
 use Rattle.syn_expr.specs.declared.items.Item.TheVariants as item
 use Rattle.syn_expr.specs.declared.form_frames.Tall.{Tall}
@@ -21,7 +21,7 @@ use Rattle.syn_expr.specs.declared.form_reader.FormReader.{FormReader}
 use Rattle.syn_expr.specs.Items.{items_of_unary, items_of_conj, items_of_disj, items_of_imp, items_of_form}
 use Rattle.syn_expr.specs.Heights.{height_of, Low}
 use Rattle.syn_expr.specs.FormMachine.{run, step, start, ended, parsed, has, got, leaf, atom_of, atom_layer, term_next, quantifier_next, mark_first, mark_after, both_next}
-use Rattle.syn_expr.proofs.FormLevels.{height-True, height-False, height-Atom, height-Equal, tall, bounded, bounded_some, bounded_then, no_times, conj_parts, disj_parts, conj_with, disj_with, tall_disj, tall_imp, imp_onto, form_with, bound_onto, Held, conj_of, disj_of, imp_of, form_of, frame_of, form_done-is}
+use Rattle.syn_expr.proofs.FormLevels.{height-True, height-False, height-Atom, height-Equal, tall, bounded_some, bounded_then, no_times, conj_parts, disj_parts, conj_with, disj_with, tall_disj, tall_imp, imp_onto, form_with, bound_onto, Held, conj_of, disj_of, imp_of, form_of, frame_of, form_done-is}
 use Rattle.syn_expr.proofs.FormSteps.{Place, held_by, place, place_frame, Ghost, wanting, having, seen, leaf-is, got-is, and_place, or_place, arrow_place, both_place, or_on, arrow_on, both_on, or_on-is, arrow_on-is, and-is, or-is, arrow-is, both-is, close-is}
 
 abbrev fixed : Mark → Item

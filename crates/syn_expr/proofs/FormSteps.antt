@@ -1,15 +1,15 @@
 -- The reader's steps where what it holds is made of readings.
-use Rattle.std.proofs.Common.{◌≡◌, ℕ, Bool, true, false, List, [], ◌∷◌, ◌++◌, map, Option, None, Some, option_and_then, option_map, refl, sym, ◌∙◌, ap}
+use Rattle.std.proofs.Common.{◌≡◌, ℕ, Bool, false, List, [], ◌∷◌, ◌++◌, map, Option, None, Some, option_and_then, option_map, sym, ap}
 use Rattle.std.proofs.lemmas.List.{map-append}
 use Rattle.syn_form.specs.declared.syntax.FormSyntax.{FormSyntax}
-use Rattle.syn_form.specs.Grammar.{UnaryText, ConjText, DisjText, ImpText, FormText, one_unary, and_also, one_conj, or_also, syntax_of_unary, members_of_conj, syntax_of_conj, members_of_disj, syntax_of_disj, syntax_of_imp, syntax_of_form}
+use Rattle.syn_form.specs.Grammar.{UnaryText, ConjText, DisjText, ImpText, syntax_of_unary, members_of_conj, syntax_of_conj, members_of_disj, syntax_of_disj, syntax_of_imp, syntax_of_form}
 use Rattle.syn_expr.specs.declared.form_frames.Tall.{Tall}
 use Rattle.syn_expr.specs.declared.form_frames.Bound.{Bound}
 use Rattle.syn_expr.specs.declared.form_frames.Frame.{Frame}
 use Rattle.syn_expr.specs.declared.form_reader.FormReader.{FormReader}
 use Rattle.syn_expr.specs.Heights.{Low}
 use Rattle.syn_expr.specs.FormMachine.{no_parts, with_member, wants, has, got, and_next, or_next, arrow_next, both_next, close_next, leaf}
-use Rattle.syn_expr.proofs.FormLevels.{tall, bounded, no_times, negated-is, members, member_more, conj_parts, disj_parts, conj_with, disj_with, tall_disj, tall_imp, Held, conj_of, disj_of, imp_of, form_of, frame_of, and_done-is, or_done-is, imp_done-is, form_done-is}
+use Rattle.syn_expr.proofs.FormLevels.{tall, bounded, no_times, negated-is, member_more, conj_parts, disj_parts, conj_with, disj_with, tall_disj, tall_imp, Held, conj_of, disj_of, imp_of, form_of, frame_of, and_done-is, or_done-is, imp_done-is, form_done-is}
 use Rattle.syn_expr.specs.Heights.{height_of}
 
 -- a form that is open, with the number of `not`s before its next operand

@@ -4,3 +4,4 @@ pub mod Places
 pub mod Heights
 pub mod FormMachine
 pub mod BindingMachine
+pub mod ItemMachine

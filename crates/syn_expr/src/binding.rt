@@ -58,7 +58,10 @@ fn word(done: Items<Piece>, lexeme: Lexeme) -> Result<PieceReader, NoMemory>
 {
     let mut done = done;
     done.push(Piece::Word(lexeme))?;
-    Ok(PieceReader { done, pending: None })
+    Ok(PieceReader {
+        done,
+        pending: None,
+    })
 }
 
 /// The next word outside of quantifiers.
@@ -163,7 +166,10 @@ fn stop_next(
         Lexeme::Fixed(Mark::Dot) => {
             let mut done = done;
             done.push(Piece::Quantifier(quantifier, binders))?;
-            Ok(Some(PieceReader { done, pending: None }))
+            Ok(Some(PieceReader {
+                done,
+                pending: None,
+            }))
         }
         _ => Ok(None),
     }
@@ -191,11 +197,7 @@ fn inside(
     }
 }
 
-fn step(
-    alloc: Global,
-    reader: PieceReader,
-    lexeme: Lexeme,
-) -> Result<Option<PieceReader>, NoMemory>
+fn step(alloc: Global, reader: PieceReader, lexeme: Lexeme) -> Result<Option<PieceReader>, NoMemory>
     ensures { IfOk result (λ o. o ≡ machine.step reader lexeme) }
 {
     let PieceReader { done, pending } = reader;
