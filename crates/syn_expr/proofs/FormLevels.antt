@@ -18,6 +18,7 @@ use Rattle.syn_expr.specs.declared.form_frames.Bound.{Bound}
 use Rattle.syn_expr.specs.declared.form_frames.Frame.{Frame}
 use Rattle.syn_expr.specs.Heights.{height_of, height_step, max_height, Low}
 use Rattle.syn_expr.specs.FormMachine.{built, not_of, implies_of, both_of, quantified_of, negated, no_parts, with_member, chained, chain_and, chain_or, chain_imp, sided, under, or_done, imp_done, form_done}
+use Rattle.syn_expr.proofs.FormFrames.{and_then-and_then, and_then-some}
 
 -- the heights, case by case
 pub height-True : height_of form.True ≡ 1
@@ -128,14 +129,6 @@ built-at f n e (high l) =
 
 built-is : (f : FormSyntax) (n : ℕ) → height_of f ≡ 1 + n → built f n ≡ bounded f
 built-is f n e = built-at f n e (judged f)
-
-and_then-and_then : {A B C : Type 0} (g : B → Option C) (f : A → Option B) (o : Option A) → option_and_then g (option_and_then f o) ≡ option_and_then (λ x. option_and_then g (f x)) o
-and_then-and_then g f None = refl
-and_then-and_then g f (Some x) = refl
-
-and_then-some : {A : Type 0} (o : Option A) → option_and_then (λ (x : A). Some x) o ≡ o
-and_then-some None = refl
-and_then-some (Some x) = refl
 
 -- `not`s round a unary
 abbrev pub no_times : ℕ → UnaryText → UnaryText
@@ -286,9 +279,6 @@ abbrev pub frame_of : ℕ → Held → Frame
 frame_of n h = record { bounds = h.bounds; nots = n; ands = conj_parts h.conj; ors = disj_parts h.disj; lefts = map tall_disj h.lefts; side = option_map tall_imp h.side }
 
 module _ (h : Held) (u : UnaryText) (l : Low (syntax_of_unary u)) where
-  abbrev last : Tall
-  last = tall (syntax_of_unary u)
-
   pub and_done-is : chain_and (conj_parts h.conj) (tall (syntax_of_unary u)) ≡ bounded (syntax_of_conj (conj_of h u))
   and_done-is = sym (ap (option_and_then (chain_and (conj_parts h.conj))) (bounded-low (syntax_of_unary u) l)) ∙ conj-bounded h.conj u
 

@@ -7,10 +7,9 @@ use Rattle.syn_expr.specs.declared.form_frames.Tall.{Tall}
 use Rattle.syn_expr.specs.declared.form_frames.Bound.{Bound}
 use Rattle.syn_expr.specs.declared.form_frames.Frame.{Frame}
 use Rattle.syn_expr.specs.declared.form_reader.FormReader.{FormReader}
-use Rattle.syn_expr.specs.Heights.{Low}
+use Rattle.syn_expr.specs.Heights.{height_of, Low}
 use Rattle.syn_expr.specs.FormMachine.{no_parts, with_member, wants, has, got, and_next, or_next, arrow_next, both_next, close_next, leaf}
 use Rattle.syn_expr.proofs.FormLevels.{tall, bounded, no_times, negated-is, member_more, conj_parts, disj_parts, conj_with, disj_with, tall_disj, tall_imp, Held, conj_of, disj_of, imp_of, form_of, frame_of, and_done-is, or_done-is, imp_done-is, form_done-is}
-use Rattle.syn_expr.specs.Heights.{height_of}
 
 -- a form that is open, with the number of `not`s before its next operand
 pub record Place : Type 0 where

@@ -97,7 +97,7 @@ abbrev pub has : Frame → List Frame → Tall → FormReader
 has f out u = record { frame = f; outer = out; first = false; last = Some u }
 
 abbrev pub calm : Frame → Frame
-calm f = record { bounds = f.bounds; nots = 0; ands = f.ands; ors = f.ors; lefts = f.lefts; side = f.side }
+calm f = record f { nots = 0 }
 
 -- an operand comes; the `not`s before it are put round it
 abbrev pub got : Frame → List Frame → Tall → Option FormReader
@@ -108,10 +108,10 @@ leaf f = record { form = f; height = 1 }
 
 abbrev pub quantifier_next : Bool → Frame → List Frame → Quantifier → List BinderSyntax → Option FormReader
 quantifier_next false f out q binders = None
-quantifier_next true f out q binders = Some (wants true (record { bounds = f.bounds ++ record { quantifier = q; binders = binders } ∷ []; nots = f.nots; ands = f.ands; ors = f.ors; lefts = f.lefts; side = f.side }) out)
+quantifier_next true f out q binders = Some (wants true (record f { bounds = f.bounds ++ record { quantifier = q; binders = binders } ∷ [] }) out)
 
 abbrev pub not_next : Frame → List Frame → FormReader
-not_next f out = wants false (record { bounds = f.bounds; nots = f.nots + 1; ands = f.ands; ors = f.ors; lefts = f.lefts; side = f.side }) out
+not_next f out = wants false (record f { nots = f.nots + 1 }) out
 
 abbrev pub open_next : Frame → List Frame → FormReader
 open_next f out = wants true fresh (f ∷ out)
@@ -143,17 +143,17 @@ begun first f out (item.Quantifier q binders) = quantifier_next first f out q bi
 begun first f out (item.Fixed m) = mark_first f out m
 
 abbrev pub and_next : Frame → List Frame → Tall → FormReader
-and_next f out u = wants false (record { bounds = f.bounds; nots = 0; ands = with_member f.ands u; ors = f.ors; lefts = f.lefts; side = f.side }) out
+and_next f out u = wants false (record f { nots = 0; ands = with_member f.ands u }) out
 
 abbrev pub or_next : Frame → List Frame → Tall → Option FormReader
-or_next f out u = option_map (λ v. wants false (record { bounds = f.bounds; nots = 0; ands = no_parts; ors = with_member f.ors v; lefts = f.lefts; side = f.side }) out) (chain_and f.ands u)
+or_next f out u = option_map (λ v. wants false (record f { nots = 0; ands = no_parts; ors = with_member f.ors v }) out) (chain_and f.ands u)
 
 abbrev pub arrow_next : Frame → List Frame → Tall → Option FormReader
-arrow_next f out u = option_map (λ v. wants false (record { bounds = f.bounds; nots = 0; ands = no_parts; ors = no_parts; lefts = f.lefts ++ v ∷ []; side = f.side }) out) (or_done f.ands f.ors u)
+arrow_next f out u = option_map (λ v. wants false (record f { nots = 0; ands = no_parts; ors = no_parts; lefts = f.lefts ++ v ∷ [] }) out) (or_done f.ands f.ors u)
 
 -- `<->` stands at most once in a form
 abbrev pub both_at : Option Tall → Frame → List Frame → Tall → Option FormReader
-both_at None f out u = option_map (λ v. wants false (record { bounds = f.bounds; nots = 0; ands = no_parts; ors = no_parts; lefts = []; side = Some v }) out) (imp_done f.ands f.ors f.lefts u)
+both_at None f out u = option_map (λ v. wants false (record fresh { bounds = f.bounds; side = Some v }) out) (imp_done f.ands f.ors f.lefts u)
 both_at (Some left) f out u = None
 
 abbrev pub both_next : Frame → List Frame → Tall → Option FormReader

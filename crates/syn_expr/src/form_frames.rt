@@ -237,19 +237,11 @@ pub(crate) fn imp_done(
 pub(crate) fn form_done(alloc: Global, frame: Frame, u: Tall) -> Result<Option<Tall>, NoMemory>
     ensures { IfOk result (λ o. o ≡ machine.form_done frame u) }
 {
-    let Frame {
-        bounds,
-        nots: _,
-        ands,
-        ors,
-        lefts,
-        side,
-    } = frame;
-    match imp_done(alloc, ands, ors, lefts, u)? {
+    match imp_done(alloc, frame.ands, frame.ors, frame.lefts, u)? {
         None => Ok(None),
-        Some(v) => match sided(alloc, side, v)? {
+        Some(v) => match sided(alloc, frame.side, v)? {
             None => Ok(None),
-            Some(w) => under(alloc, bounds, w),
+            Some(w) => under(alloc, frame.bounds, w),
         },
     }
 }

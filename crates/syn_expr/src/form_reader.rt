@@ -109,30 +109,12 @@ fn quantifier_next(
     if !first {
         return Ok(None);
     }
-    let Frame {
-        mut bounds,
-        nots,
-        ands,
-        ors,
-        lefts,
-        side,
-    } = frame;
-    bounds.push(Bound {
+    let mut frame = frame;
+    frame.bounds.push(Bound {
         quantifier,
         binders,
     })?;
-    Ok(Some(wants(
-        true,
-        Frame {
-            bounds,
-            nots,
-            ands,
-            ors,
-            lefts,
-            side,
-        },
-        outer,
-    )))
+    Ok(Some(wants(true, frame, outer)))
 }
 
 /// One `not` more. A number of them that no counter holds is told as want of memory.
@@ -192,27 +174,13 @@ fn begun(
 fn and_next(frame: Frame, outer: Stack<Frame>, u: Tall) -> Result<FormReader, NoMemory>
     ensures { IfOk result (λ r. r ≡ machine.and_next frame outer u) }
 {
-    let Frame {
-        bounds,
-        nots: _,
+    let ands = with_member(frame.ands, u)?;
+    let frame = Frame {
+        nots: 0,
         ands,
-        ors,
-        lefts,
-        side,
-    } = frame;
-    let ands = with_member(ands, u)?;
-    Ok(wants(
-        false,
-        Frame {
-            bounds,
-            nots: 0,
-            ands,
-            ors,
-            lefts,
-            side,
-        },
-        outer,
-    ))
+        ..frame
+    };
+    Ok(wants(false, frame, outer))
 }
 
 fn or_next(
@@ -223,31 +191,17 @@ fn or_next(
 ) -> Result<Option<FormReader>, NoMemory>
     ensures { IfOk result (λ o. o ≡ machine.or_next frame outer u) }
 {
-    let Frame {
-        bounds,
-        nots: _,
-        ands,
-        ors,
-        lefts,
-        side,
-    } = frame;
-    let Some(v) = chain_and(ands, u)? else {
+    let Some(v) = chain_and(frame.ands, u)? else {
         return Ok(None);
     };
-    let ors = with_member(ors, v)?;
-    let ands = no_parts(alloc);
-    Ok(Some(wants(
-        false,
-        Frame {
-            bounds,
-            nots: 0,
-            ands,
-            ors,
-            lefts,
-            side,
-        },
-        outer,
-    )))
+    let ors = with_member(frame.ors, v)?;
+    let frame = Frame {
+        nots: 0,
+        ands: no_parts(alloc),
+        ors,
+        ..frame
+    };
+    Ok(Some(wants(false, frame, outer)))
 }
 
 fn arrow_next(
@@ -258,31 +212,18 @@ fn arrow_next(
 ) -> Result<Option<FormReader>, NoMemory>
     ensures { IfOk result (λ o. o ≡ machine.arrow_next frame outer u) }
 {
-    let Frame {
-        bounds,
-        nots: _,
-        ands,
-        ors,
-        mut lefts,
-        side,
-    } = frame;
-    let Some(v) = or_done(ands, ors, u)? else {
+    let Some(v) = or_done(frame.ands, frame.ors, u)? else {
         return Ok(None);
     };
+    let mut lefts = frame.lefts;
     lefts.push(v)?;
-    let (ands, ors) = (no_parts(alloc), no_parts(alloc));
-    Ok(Some(wants(
-        false,
-        Frame {
-            bounds,
-            nots: 0,
-            ands,
-            ors,
-            lefts,
-            side,
-        },
-        outer,
-    )))
+    let frame = Frame {
+        bounds: frame.bounds,
+        lefts,
+        side: frame.side,
+        ..fresh(alloc)
+    };
+    Ok(Some(wants(false, frame, outer)))
 }
 
 /// `<->` stands at most once in a form.
@@ -294,23 +235,16 @@ fn both_next(
 ) -> Result<Option<FormReader>, NoMemory>
     ensures { IfOk result (λ o. o ≡ machine.both_next frame outer u) }
 {
-    let Frame {
-        bounds,
-        nots: _,
-        ands,
-        ors,
-        lefts,
-        side,
-    } = frame;
-    if side.is_some() {
+    if frame.side.is_some() {
         return Ok(None);
     }
-    let Some(v) = imp_done(alloc, ands, ors, lefts, u)? else {
+    let Some(v) = imp_done(alloc, frame.ands, frame.ors, frame.lefts, u)? else {
         return Ok(None);
     };
+    let side = Some(Boxed::new(alloc, v)?);
     let frame = Frame {
-        bounds,
-        side: Some(Boxed::new(alloc, v)?),
+        bounds: frame.bounds,
+        side,
         ..fresh(alloc)
     };
     Ok(Some(wants(false, frame, outer)))
@@ -435,5 +369,166 @@ pub(crate) fn form_of_items(
     match run(alloc, items)? {
         None => Ok(None),
         Some(reader) => ended(alloc, reader),
+    }
+}
+
+#[cfg(test)]
+mod tests {
+    use super::*;
+    use std::test::Fail;
+    use syn_term::Text;
+
+    /// An item for a byte: marks by signs of one byte, `=` an equality, `A` and `E` quantifiers, a
+    /// number as a term that is no atom, and all else an atom.
+    fn item(alloc: Global, sign: char) -> Result<Item, NoMemory> {
+        let item = match sign {
+            't' => Item::Fixed(Mark::True),
+            'f' => Item::Fixed(Mark::False),
+            '!' => Item::Fixed(Mark::Not),
+            '&' => Item::Fixed(Mark::And),
+            '|' => Item::Fixed(Mark::Or),
+            '>' => Item::Fixed(Mark::Arrow),
+            '~' => Item::Fixed(Mark::BothWays),
+            '(' => Item::Fixed(Mark::Open),
+            ')' => Item::Fixed(Mark::Close),
+            ';' => Item::Fixed(Mark::Then),
+            '=' => Item::Equal(TermSyntax::Number(1), TermSyntax::Number(2)),
+            '0' => Item::Term(TermSyntax::Number(0)),
+            'A' => Item::Quantifier(Quantifier::All, Items::new(alloc)),
+            'E' => Item::Quantifier(Quantifier::Exists, Items::new(alloc)),
+            _ => {
+                let mut name = String::new(alloc);
+                name.push(sign)?;
+                let name = HeadName::Name(Text::from_str(alloc, name.as_str())?);
+                Item::Term(TermSyntax::Applied(name, Items::new(alloc)))
+            }
+        };
+        Ok(item)
+    }
+
+    fn sign_of(f: &FormSyntax) -> char {
+        match f {
+            FormSyntax::True => 't',
+            FormSyntax::False => 'f',
+            FormSyntax::Atom(_, _) => 'a',
+            FormSyntax::Equal(_, _) => '=',
+            FormSyntax::Not(_) => '!',
+            FormSyntax::And(_) => '&',
+            FormSyntax::Or(_) => '|',
+            FormSyntax::Implies(_, _) => '>',
+            FormSyntax::BothWays(_, _) => '~',
+            FormSyntax::Quantified(Quantifier::All, _, _) => 'A',
+            FormSyntax::Quantified(Quantifier::Exists, _, _) => 'E',
+        }
+    }
+
+    /// The tree with each chain and each arrow in brackets, by the same signs.
+    fn shape(f: &FormSyntax, out: &mut String) -> Result<(), NoMemory> {
+        match f {
+            FormSyntax::Atom(name, _) => out.push_str(name.as_str())?,
+            FormSyntax::Not(a) | FormSyntax::Quantified(_, _, a) => {
+                out.push(sign_of(f))?;
+                shape(a.get(), out)?;
+            }
+            FormSyntax::And(all) | FormSyntax::Or(all) => {
+                out.push('[')?;
+                for member in all.as_slice() {
+                    shape(member, out)?;
+                    out.push(sign_of(f))?;
+                }
+                out.push(']')?;
+            }
+            FormSyntax::Implies(a, b) | FormSyntax::BothWays(a, b) => {
+                out.push('[')?;
+                shape(a.get(), out)?;
+                out.push(sign_of(f))?;
+                shape(b.get(), out)?;
+                out.push(']')?;
+            }
+            _ => out.push(sign_of(f))?,
+        }
+        Ok(())
+    }
+
+    /// The shape of what the signs are read as; `none` where they are no formula.
+    fn read(alloc: Global, signs: &str) -> Result<String, NoMemory> {
+        let mut items = Items::new(alloc);
+        for sign in signs.chars() {
+            items.push(item(alloc, sign)?)?;
+        }
+        let mut out = String::new(alloc);
+        match form_of_items(alloc, items)? {
+            None => out.push_str("none")?,
+            Some(f) => shape(&f, &mut out)?,
+        }
+        Ok(out)
+    }
+
+    /// Whether the marks `before`, each so many times, then `true` and the marks `after` are a formula.
+    fn reads_round(
+        alloc: Global,
+        before: Mark,
+        after: Option<Mark>,
+        times: u32,
+    ) -> Result<bool, NoMemory> {
+        let mut items = Items::new(alloc);
+        for _ in 0..times {
+            items.push(Item::Fixed(before))?;
+        }
+        items.push(Item::Fixed(Mark::True))?;
+        if let Some(mark) = after {
+            for _ in 0..times {
+                items.push(Item::Fixed(mark))?;
+            }
+        }
+        Ok(form_of_items(alloc, items)?.is_some())
+    }
+
+    #[test]
+    fn reads_by_precedence(rt: HostRuntime) -> Result<(), Fail> {
+        let cases = [
+            ("a>(b|c&!d)", "[a>[b|[c&!d&]|]]"),
+            ("=>b|c&!!d", "[=>[b|[c&!!d&]|]]"),
+            ("a>b>c", "[a>[b>c]]"),
+            ("(a>b)>c", "[[a>b]>c]"),
+            ("a&b&(c&d)", "[a&b&[c&d&]&]"),
+            ("a~b>c", "[a~[b>c]]"),
+            ("a~b~c", "none"),
+            ("a~(b~c)", "[a~[b~c]]"),
+            ("a&b|c", "[[a&b&]|c|]"),
+            ("a&(b|c)", "[a&[b|c|]&]"),
+            ("AEa~b", "AE[a~b]"),
+            ("a&Ab", "none"),
+            ("!Ab", "none"),
+            ("a~Ab", "none"),
+            ("a&(Ab>c)|d", "[[a&A[b>c]&]|d|]"),
+            ("t|f", "[t|f|]"),
+            ("", "none"),
+            ("a&", "none"),
+            ("ab", "none"),
+            ("(a", "none"),
+            ("a)", "none"),
+            ("()", "none"),
+            ("0", "none"),
+            ("a;", "none"),
+        ];
+        for (signs, want) in cases {
+            let got = read(rt.alloc(), signs)?;
+            assert_eq!(rt; got.as_str(), want, "at {signs}");
+        }
+        Ok(())
+    }
+
+    #[test]
+    fn reads_up_to_the_limit(rt: HostRuntime) -> Result<(), Fail> {
+        assert!(rt; reads_round(rt.alloc(), Mark::Not, None, 1_263)?);
+        assert!(rt; !reads_round(rt.alloc(), Mark::Not, None, 1_264)?);
+        Ok(())
+    }
+
+    #[test]
+    fn reads_many_brackets(rt: HostRuntime) -> Result<(), Fail> {
+        assert!(rt; reads_round(rt.alloc(), Mark::Open, Some(Mark::Close), 1_000_000)?);
+        Ok(())
     }
 }
