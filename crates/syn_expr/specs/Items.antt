@@ -1,10 +1,9 @@
 -- The items of a text: its terms, equalities and quantifiers, each put together, and the marks between them.
-use Rattle.std.specs.Prelude.{ℕ, List, [], ◌∷◌, ◌++◌}
+use Rattle.std.specs.Prelude.{List, [], ◌∷◌, ◌++◌}
 use Rattle.std.specs.List.{flat_map}
 use Rattle.syn_form.specs.declared.syntax.Lexeme.{Lexeme}
 use Rattle.syn_form.specs.declared.syntax.Mark.TheVariants as mark
 use Rattle.syn_form.specs.declared.syntax.HeadName.TheVariants as head
-use Rattle.syn_form.specs.declared.syntax.TermSyntax.{TermSyntax}
 use Rattle.syn_form.specs.declared.syntax.TermSyntax.TheViews as term_view
 use Rattle.syn_form.specs.Grammar.{fixed, words_of_term, words_of_quantifier, UnaryText, ConjText, DisjText, ImpText, FormText, OutText, truth, falsity, atom, equality, no, bracket, one_unary, and_also, one_conj, or_also, one_disj, implies, one_imp, both_ways, quantified, give, choice}
 use Rattle.syn_expr.specs.declared.items.Item.{Item}

@@ -3,3 +3,5 @@ pub mod Items
 pub mod Places
 pub mod Heights
 pub mod FormMachine
+pub mod BindingMachine
+pub mod ItemMachine

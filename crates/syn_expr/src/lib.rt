@@ -3,10 +3,12 @@
 //! back.
 #![tactic(auto)]
 
+mod binding;
 #[cfg(test)]
 mod examples;
 mod form_frames;
 mod form_reader;
+mod item_reader;
 mod items;
 mod names;
 mod print_forms;
