@@ -3,6 +3,16 @@
 #![tactic(auto)]
 
 mod items;
+mod names;
+mod print_forms;
+mod print_outs;
+mod print_qforms;
+mod print_terms;
 mod scope;
+mod text;
 
+pub use print_forms::print_form;
+pub use print_outs::print_out;
+pub use print_qforms::print_qform;
+pub use print_terms::print_term;
 pub use scope::Scope;

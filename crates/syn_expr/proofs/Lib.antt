@@ -1,0 +1,4 @@
+pub mod Pieces
+pub mod TermTexts
+pub mod FormTexts
+pub mod QFormTexts

@@ -1,0 +1,9 @@
+use Rattle.std.proofs.Common.{◌≡◌, ◌++◌, map, take, string_bytes}
+use Rattle.syn_form.specs.Printing.{joined}
+use Rattle.syn_expr.specs.Places.{spoken_at}
+use Rattle.syn_expr.proofs.FormTexts.{inner_text}
+use Rattle.syn_expr.proofs.print_forms.+forms.Given as goal
+
+-- the parts so far stand there, with the text between
+abbrev pub invariant-put_chain-loop-i : goal.invariant-put_chain-loop-i
+invariant-put_chain-loop-i l = string_bytes l.out ≡ string_bytes l.initial.out ++ joined l.between (map (inner_text (spoken_at l.place)) (take l.i l.all))

@@ -1,0 +1,15 @@
+use Rattle.std.proofs.Common.{◌≡◌, ◌++◌, ◌+◌, ◌*◌, codes, map, take, string_bytes}
+use Rattle.syn_form.specs.Printing.{joined, printed_term}
+use Rattle.syn_expr.specs.Places.{spoken_at}
+use Rattle.syn_expr.proofs.print_terms.+terms.Given as goal
+
+-- the arguments so far stand there, with a comma and a space between
+abbrev pub invariant-put_args-loop-i : goal.invariant-put_args-loop-i
+invariant-put_args-loop-i l = string_bytes l.out ≡ string_bytes l.initial.out ++ joined (codes ", ") (map (printed_term (spoken_at l.place)) (take l.i l.args))
+
+-- a term is deeper than its arguments, and the arguments come before each of them
+abbrev pub decreases-put_args : goal.decreases-put_args
+decreases-put_args l = 2 * goal.size-put_args l + 1
+
+abbrev pub decreases-put_term : goal.decreases-put_term
+decreases-put_term l = 2 * goal.size-put_term l

@@ -1,0 +1,40 @@
+// The printer of outputs: a term, or a choice by a test.
+ghost use Rattle.std.specs.Prelude.{◌≡◌, ◌++◌, string_bytes, IfOk, OnOk};
+ghost use Rattle.syn_form.specs.Printing.{printed_out};
+ghost use Rattle.syn_expr.specs.Places.{spoken_at};
+ghost use Rattle.syn_expr.specs.Scopes.{spoken};
+
+use crate::names::{Inside, outside};
+use crate::print_forms::put_form;
+use crate::print_terms::put_term;
+use crate::scope::Scope;
+use crate::text::put;
+use std::alloc::Global;
+use syn_form::Out;
+use syn_term::NoMemory;
+
+/// The one text of the output. The one error is want of memory.
+pub fn print_out(alloc: Global, scope: &Scope, o: &Out) -> Result<String, NoMemory>
+    ensures { IfOk result (λ text. string_bytes text ≡ printed_out (spoken scope.now) o.now) }
+{
+    let mut out = String::new(alloc);
+    put_out(&mut out, &outside(scope), o)?;
+    Ok(out)
+}
+
+/// Puts the text of the output after what stands already. The one error is want of memory.
+fn put_out(out: &mut String, place: &Inside, o: &Out) -> Result<(), NoMemory>
+    ensures { OnOk result (string_bytes out.new ≡ string_bytes out.old ++ printed_out (spoken_at place.now) o.now) }
+{
+    match o {
+        Out::Give(t) => put_term(out, place, t),
+        Out::If(f, u, v) => {
+            put(out, "if ")?;
+            put_form(out, place, f.get())?;
+            put(out, " then ")?;
+            put_out(out, place, u.get())?;
+            put(out, " else ")?;
+            put_out(out, place, v.get())
+        }
+    }
+}

@@ -1,0 +1,102 @@
+// The printer of formulas with quantifiers. A quantified formula inside another stands in brackets
+// too, and inside a quantifier its variable is printed by the name that the quantifier gives it.
+ghost use Rattle.std.specs.Prelude.{◌≡◌, ◌++◌, map, string_bytes, IfOk, OnOk};
+ghost use Rattle.syn_form.specs.Printing.{inner, joined, printed_qform, printing_of_qform};
+ghost use Rattle.syn_expr.specs.Places.{binder_text, spoken_at};
+ghost use Rattle.syn_expr.specs.Scopes.{spoken};
+
+use crate::names::{Inside, outside, sort_name, within};
+use crate::print_forms::{AND, CLOSE, FALSE, IMPLIES, NOT, OPEN, OR, TRUE, put_atom, put_equality};
+use crate::scope::Scope;
+use crate::text::{put, separator};
+use std::alloc::Global;
+use syn_form::{Binder, QForm};
+use syn_term::NoMemory;
+
+/// The one text of the formula. The one error is want of memory.
+pub fn print_qform(alloc: Global, scope: &Scope, f: &QForm) -> Result<String, NoMemory>
+    ensures { IfOk result (λ text. string_bytes text ≡ printed_qform (spoken scope.now) f.now) }
+{
+    let mut out = String::new(alloc);
+    put_qform(&mut out, &outside(scope), f)?;
+    Ok(out)
+}
+
+/// Puts the text of the formula after what stands already. The one error is want of memory.
+#[cycle(qforms)]
+fn put_qform(out: &mut String, place: &Inside, f: &QForm) -> Result<(), NoMemory>
+    ensures { OnOk result (string_bytes out.new ≡ string_bytes out.old ++ printed_qform (spoken_at place.now) f.now) }
+{
+    match f {
+        QForm::True => put(out, TRUE),
+        QForm::False => put(out, FALSE),
+        QForm::Atom(r, args) => put_atom(out, place, *r, args.get().as_slice()),
+        QForm::Equal(s, t) => put_equality(out, place, s, t),
+        QForm::Not(a) => {
+            put(out, NOT)?;
+            put_inner_qform(out, place, a.get())
+        }
+        QForm::And(all) => put_qform_chain(out, place, AND, all.get().as_slice()),
+        QForm::Or(all) => put_qform_chain(out, place, OR, all.get().as_slice()),
+        QForm::Implies(a, b) => {
+            put_inner_qform(out, place, a.get())?;
+            put(out, IMPLIES)?;
+            put_inner_qform(out, place, b.get())
+        }
+        QForm::All(b, a) => {
+            put_binder(out, place, "all ", b)?;
+            put_inner_qform(out, &within(&*place, b), a.get())
+        }
+        QForm::Exists(b, a) => {
+            put_binder(out, place, "some ", b)?;
+            put_inner_qform(out, &within(&*place, b), a.get())
+        }
+    }
+}
+
+/// Puts the formula as it stands inside another, in brackets where it has to.
+#[cycle(qforms)]
+fn put_inner_qform(out: &mut String, place: &Inside, f: &QForm) -> Result<(), NoMemory>
+    ensures { OnOk result (string_bytes out.new ≡ string_bytes out.old ++ inner (printing_of_qform f.now (spoken_at place.now))) }
+{
+    match f {
+        QForm::And(_)
+        | QForm::Or(_)
+        | QForm::Implies(_, _)
+        | QForm::All(_, _)
+        | QForm::Exists(_, _) => {
+            put(out, OPEN)?;
+            put_qform(out, place, f)?;
+            put(out, CLOSE)
+        }
+        _ => put_qform(out, place, f),
+    }
+}
+
+/// Puts the formulas as they stand inside another, with the text between.
+#[cycle(qforms)]
+fn put_qform_chain(
+    out: &mut String,
+    place: &Inside,
+    between: &str,
+    all: &[QForm],
+) -> Result<(), NoMemory>
+    ensures { OnOk result (string_bytes out.new ≡ string_bytes out.old ++ joined between.now (map (λ f. inner (printing_of_qform f (spoken_at place.now))) all.now)) }
+{
+    for (i, f) in all.iter().enumerate() {
+        put(out, separator(i, between))?;
+        put_inner_qform(out, place, f)?;
+    }
+    Ok(())
+}
+
+/// Puts a quantifier up to its formula: the word, the name, the sort and a stop.
+fn put_binder(out: &mut String, place: &Inside, word: &str, b: &Binder) -> Result<(), NoMemory>
+    ensures { OnOk result (string_bytes out.new ≡ string_bytes out.old ++ binder_text (spoken_at place.now) word.now b.now) }
+{
+    put(out, word)?;
+    put(out, b.name.as_str())?;
+    put(out, ": ")?;
+    put(out, sort_name(place.syms, b.var.sort))?;
+    put(out, ". ")
+}

@@ -1,0 +1,104 @@
+// The printer of terms: where the text of a term is a number the number is printed, and elsewhere
+// the name of its symbol with the arguments' texts, or its variable.
+ghost use Rattle.std.specs.Prelude.{◌≡◌, ◌++◌, string_bytes, if◌then◌else◌, nat_lt, Option, ℕ, Some, None, IfOk, OnOk};
+ghost use Rattle.syn_form.specs.Printing.{printed_term, printing_of, row_text, var_text};
+ghost use Rattle.syn_expr.specs.Places.{arguments_text, next_number, spoken_at};
+ghost use Rattle.syn_expr.specs.Scopes.{spoken};
+
+use crate::names::{Inside, name_for, outside, sort_name, symbol_kind, symbol_name};
+use crate::scope::Scope;
+use crate::text::{put, put_number, separator};
+use std::alloc::Global;
+use syn_term::{Kind, NoMemory, Node, Sort, Symbols, Term, Var};
+
+/// The one text of the term. The one error is want of memory.
+pub fn print_term(alloc: Global, scope: &Scope, t: &Term) -> Result<String, NoMemory>
+    ensures { IfOk result (λ text. string_bytes text ≡ printed_term (spoken scope.now) t.now) }
+{
+    let mut out = String::new(alloc);
+    put_term(&mut out, &outside(scope), t)?;
+    Ok(out)
+}
+
+/// Puts the text of the term after what stands already. The one error is want of memory.
+#[cycle(terms)]
+pub(crate) fn put_term(out: &mut String, place: &Inside, t: &Term) -> Result<(), NoMemory>
+    ensures { OnOk result (string_bytes out.new ≡ string_bytes out.old ++ printed_term (spoken_at place.now) t.now) }
+{
+    if let Some(number) = number_of(place, t) {
+        return put_number(out, number);
+    }
+    match t.get() {
+        Node::Var(_, v) => put_var(out, place, *v),
+        Node::App(_, f, args) => {
+            put(out, symbol_name(place.syms, *f))?;
+            put_args(out, place, args.as_slice())
+        }
+    }
+}
+
+/// Puts the arguments in brackets, and nothing where there are none.
+#[cycle(terms)]
+pub(crate) fn put_args(out: &mut String, place: &Inside, args: &[Term]) -> Result<(), NoMemory>
+    ensures { OnOk result (string_bytes out.new ≡ string_bytes out.old ++ arguments_text (spoken_at place.now) args.now) }
+{
+    if args.is_empty() {
+        return Ok(());
+    }
+    put(out, "(")?;
+    for (i, t) in args.iter().enumerate() {
+        put(out, separator(i, ", "))?;
+        put_term(out, place, t)?;
+    }
+    put(out, ")")
+}
+
+/// Puts a variable: a row variable, or its name.
+fn put_var(out: &mut String, place: &Inside, v: Var) -> Result<(), NoMemory>
+    ensures { OnOk result (string_bytes out.new ≡ string_bytes out.old ++ var_text (spoken_at place.now) v) }
+{
+    if place.rows {
+        put_row_var(out, place.syms, v)
+    } else {
+        put(out, name_for(&place.names, v.number))
+    }
+}
+
+/// Puts a row variable, with its sort where that is a declared one.
+fn put_row_var(out: &mut String, syms: &Symbols, v: Var) -> Result<(), NoMemory>
+    ensures { OnOk result (string_bytes out.new ≡ string_bytes out.old ++ row_text syms.now v v.sort) }
+{
+    put(out, "?")?;
+    put_number(out, v.number)?;
+    match v.sort {
+        Sort::Nat => Ok(()),
+        Sort::Named(_) => {
+            put(out, ":")?;
+            put(out, sort_name(syms, v.sort))
+        }
+    }
+}
+
+/// The number that the term's text is, None where it is none.
+fn number_of(place: &Inside, t: &Term) -> Option<u32>
+    ensures { result ≡ (printing_of (spoken_at place.now) t.now).number }
+{
+    match t.get() {
+        Node::Var(_, _) => None,
+        Node::App(_, f, args) => match (symbol_kind(place.syms, *f), args.as_slice()) {
+            (Some(Kind::Zero), []) => Some(0),
+            (Some(Kind::Succ), [arg]) => next_number(number_of(place, arg)),
+            _ => None,
+        },
+    }
+}
+
+/// The number after this one, None where there is none or it is above 1,000.
+fn next_number(number: Option<u32>) -> Option<u32>
+    ensures { result ≡ next_number number }
+{
+    match number {
+        Some(n) if n < 1000 => Some(n + 1),
+        _ => None,
+    }
+}
