@@ -2,3 +2,9 @@ pub mod Pieces
 pub mod TermTexts
 pub mod FormTexts
 pub mod QFormTexts
+pub mod Finding
+pub mod Growth
+pub mod Sorting
+pub mod TermMaking
+pub mod Options
+pub mod TermSyntaxes

@@ -1,3 +1,4 @@
 pub mod Scopes
 pub mod Items
 pub mod Places
+pub mod Elaborating

@@ -2,7 +2,9 @@
 //! it, by the names of a scope.
 #![tactic(auto)]
 
+mod elaborate_term;
 mod items;
+mod lookups;
 mod names;
 mod print_forms;
 mod print_outs;
