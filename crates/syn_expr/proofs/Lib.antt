@@ -8,3 +8,6 @@ pub mod Sorting
 pub mod TermMaking
 pub mod Options
 pub mod TermSyntaxes
+pub mod Deepest
+pub mod FormSyntaxes
+pub mod Levels

@@ -2,3 +2,4 @@ pub mod Scopes
 pub mod Items
 pub mod Places
 pub mod Elaborating
+pub mod Limits

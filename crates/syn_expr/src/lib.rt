@@ -4,6 +4,7 @@
 
 mod elaborate_term;
 mod items;
+mod limits;
 mod lookups;
 mod names;
 mod print_forms;
