@@ -11,3 +11,4 @@ pub mod TermSyntaxes
 pub mod Deepest
 pub mod FormSyntaxes
 pub mod Levels
+pub mod TermCounts
