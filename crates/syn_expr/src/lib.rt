@@ -12,6 +12,7 @@ mod print_outs;
 mod print_qforms;
 mod print_terms;
 mod scope;
+mod sorts;
 mod text;
 
 pub use print_forms::print_form;
