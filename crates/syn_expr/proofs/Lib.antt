@@ -12,3 +12,6 @@ pub mod Deepest
 pub mod FormSyntaxes
 pub mod Levels
 pub mod TermCounts
+pub mod QForms
+pub mod FormMaking
+pub mod Weights

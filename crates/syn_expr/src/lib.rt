@@ -2,7 +2,9 @@
 //! it, by the names of a scope.
 #![tactic(auto)]
 
+mod elaborate_form;
 mod elaborate_term;
+mod form_parts;
 mod items;
 mod limits;
 mod lookups;
