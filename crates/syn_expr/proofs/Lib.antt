@@ -15,3 +15,5 @@ pub mod TermCounts
 pub mod QForms
 pub mod FormMaking
 pub mod Weights
+pub mod Unquantifying
+pub mod OutMaking

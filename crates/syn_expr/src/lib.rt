@@ -3,6 +3,7 @@
 #![tactic(auto)]
 
 mod elaborate_form;
+mod elaborate_out;
 mod elaborate_term;
 mod form_parts;
 mod items;
@@ -16,6 +17,7 @@ mod print_terms;
 mod scope;
 mod sorts;
 mod text;
+mod unquantified;
 
 pub use print_forms::print_form;
 pub use print_outs::print_out;
