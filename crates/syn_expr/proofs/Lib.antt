@@ -17,3 +17,4 @@ pub mod FormMaking
 pub mod Weights
 pub mod Unquantifying
 pub mod OutMaking
+pub mod FormCounts
