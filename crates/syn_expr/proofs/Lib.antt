@@ -18,3 +18,4 @@ pub mod Weights
 pub mod Unquantifying
 pub mod OutMaking
 pub mod FormCounts
+pub mod PlainCounts
