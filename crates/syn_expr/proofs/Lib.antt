@@ -9,3 +9,20 @@ mod FormComplete
 mod FormSound
 mod FormExact
 mod FormRuns
+pub mod Finding
+pub mod Growth
+pub mod Sorting
+pub mod TermMaking
+pub mod Options
+pub mod TermSyntaxes
+pub mod Deepest
+pub mod FormSyntaxes
+pub mod Levels
+pub mod TermCounts
+pub mod QForms
+pub mod FormMaking
+pub mod Weights
+pub mod Unquantifying
+pub mod OutMaking
+pub mod FormCounts
+pub mod PlainCounts

@@ -5,3 +5,5 @@ pub mod Heights
 pub mod FormMachine
 pub mod BindingMachine
 pub mod ItemMachine
+pub mod Elaborating
+pub mod Limits

@@ -3,11 +3,13 @@ use Rattle.std.specs.Prelude.{ℕ, ◌+◌, max, sum, List, [], ◌∷◌, ◌++
 use Rattle.std.specs.List.{flat_map}
 use Rattle.std.specs.Option.{option_map, option_and_then}
 use Rattle.syn_term.specs.declared.sorts.Var.{Var}
-use Rattle.syn_term.specs.Terms.{nodes, depth_of, greatest}
+use Rattle.syn_term.specs.Terms.{nodes, depth_of, greatest, bare}
 use Rattle.syn_form.specs.declared.trees.Form.TheVariants as form
 use Rattle.syn_form.specs.declared.trees.Form.TheViews as view
 use Rattle.syn_form.specs.declared.trees.QForm.{fold-QForm}
 use Rattle.syn_form.specs.declared.trees.QForm.TheOpen.{QForm-F}
+use Rattle.syn_form.specs.declared.trees.QForm.TheVariants as qform
+use Rattle.syn_form.specs.declared.trees.QForm.TheViews as qview
 use Rattle.syn_form.specs.Lists.{all_there}
 use Rattle.syn_form.specs.Trees.{FormTree, QFormTree, all_of, term_vars}
 
@@ -55,6 +57,22 @@ qform_vars_step _ = []
 -- the variables of the terms and of the binders, from the left
 abbrev pub qform_vars : QFormTree → List Var
 qform_vars = fold-QForm (List Var) qform_vars_step
+
+abbrev pub bare_qform_step : QForm-F QFormTree → QFormTree
+bare_qform_step QForm-F.True = qform.True
+bare_qform_step QForm-F.False = qform.False
+bare_qform_step (QForm-F.Atom r args) = qform.Atom r (map bare args)
+bare_qform_step (QForm-F.Equal s t) = qform.Equal (bare s) (bare t)
+bare_qform_step (QForm-F.Not a) = qview.Not a
+bare_qform_step (QForm-F.And all) = qview.And all
+bare_qform_step (QForm-F.Or all) = qview.Or all
+bare_qform_step (QForm-F.Implies a b) = qview.Implies a b
+bare_qform_step (QForm-F.All b a) = qview.All b a
+bare_qform_step (QForm-F.Exists b a) = qview.Exists b a
+
+-- the tree with the places of its terms left out: two formulas are the same tree where these are equal
+abbrev pub bare_qform : QFormTree → QFormTree
+bare_qform = fold-QForm QFormTree bare_qform_step
 
 abbrev pub unquantified_step : QForm-F (Option FormTree) → Option FormTree
 unquantified_step QForm-F.True = Some form.True
