@@ -19,3 +19,4 @@ pub mod Unquantifying
 pub mod OutMaking
 pub mod FormCounts
 pub mod PlainCounts
+pub mod Variables

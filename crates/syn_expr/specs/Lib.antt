@@ -3,3 +3,4 @@ pub mod Items
 pub mod Places
 pub mod Elaborating
 pub mod Limits
+pub mod Sorted

@@ -18,6 +18,7 @@ mod scope;
 mod sorts;
 mod text;
 mod unquantified;
+mod vars;
 
 pub use print_forms::print_form;
 pub use print_outs::print_out;
