@@ -20,3 +20,4 @@ pub mod OutMaking
 pub mod FormCounts
 pub mod PlainCounts
 pub mod Variables
+pub mod ProperTrees

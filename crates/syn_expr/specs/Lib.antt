@@ -4,3 +4,4 @@ pub mod Places
 pub mod Elaborating
 pub mod Limits
 pub mod Sorted
+pub mod Proper
