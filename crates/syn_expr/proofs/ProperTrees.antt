@@ -6,7 +6,6 @@ use Rattle.std.specs.Option.{option_and_then, option_map}
 use Rattle.std.specs.Str.{bytes_eq}
 use Rattle.std.proofs.lemmas.Slice.Eq.{bytes_eq-Decides}
 use Rattle.std.proofs.lemmas.List.Elements.{All-head, All-tail}
-use Rattle.syn_term.specs.declared.sorts.Sort.{Sort}
 use Rattle.syn_term.specs.declared.sorts.SymId.{SymId}
 use Rattle.syn_term.specs.declared.sorts.Var.{Var}
 use Rattle.syn_term.specs.DeclaredSorts.{sort_named}
@@ -22,16 +21,16 @@ use Rattle.syn_form.specs.declared.syntax.FormSyntax.{FormSyntax}
 use Rattle.syn_form.specs.declared.syntax.OutSyntax.{OutSyntax}
 use Rattle.syn_form.specs.declared.trees.Out.TheVariants as out
 use Rattle.syn_form.specs.declared.trees.QForm.TheViews as view
-use Rattle.syn_form.specs.Elaboration.{Reading, alone_tree, and_then, applied_tree, atom_tree, binder_sort, choice_tree, elaborate_form, elaborate_form_step, elaborate_out, elaborate_out_step, elaborate_plain, elaborate_term, elaborate_term_step, equality_tree, head_symbol, head_var, in_turn, is_free, mapped, nested, number_tree, numbered_var, quantified_reading, quantifier_tree, sorted_application, sorted_atom, sorted_choice, sorted_equality, successors, sym_id, symbol_named, var_named}
+use Rattle.syn_form.specs.Elaboration.{Reading, alone_tree, and_then, applied_tree, atom_tree, binder_sort, choice_tree, elaborate_form, elaborate_form_step, elaborate_out, elaborate_out_step, elaborate_plain, elaborate_term, elaborate_term_step, equality_tree, head_symbol, head_var, in_turn, is_free, mapped, nested, numbered_var, quantified_reading, quantifier_tree, sorted_application, sorted_atom, sorted_choice, sorted_equality, successors, sym_id, symbol_named, var_named}
 use Rattle.syn_form.specs.Lists.{all_there}
 use Rattle.syn_form.specs.Quantified.{unquantified}
 use Rattle.syn_form.specs.Scopes.{Named, TextScope, with_name}
 use Rattle.syn_form.specs.Trees.{OutTree, QFormTree}
 use Rattle.syn_expr.specs.Elaborating.{binder_var}
 use Rattle.syn_expr.specs.Proper.{HasFreeNames, all_true, are_proper_binders, is_proper_binder, is_proper_form, is_proper_head, is_proper_out, is_proper_term, is_symbol_name, proper_applied, proper_atom, proper_form_step, proper_out_step, proper_term_step}
-use Rattle.syn_expr.proofs.FormCounts.{read_before, steady_before, step_of, two_before}
+use Rattle.syn_expr.proofs.FormCounts.{read_before, steady_before, two_before}
 use Rattle.syn_expr.proofs.FormMaking.{both, bound_is}
-use Rattle.syn_expr.proofs.FormSyntaxes.{FormSyntaxCases, by_form_syntax, by_out_syntax, fold-True, fold-False, fold-Atom, fold-Equal, fold-Not, fold-And, fold-Or, fold-Implies, fold-BothWays, fold-Quantified, fold-Give, fold-If}
+use Rattle.syn_expr.proofs.FormSyntaxes.{by_form_syntax, by_out_syntax, fold-True, fold-False, fold-Atom, fold-Equal, fold-Not, fold-And, fold-Or, fold-Implies, fold-BothWays, fold-Quantified, fold-Give, fold-If}
 use Rattle.syn_expr.proofs.Sorting.{and_true, both_true}
 use Rattle.syn_expr.proofs.TermCounts.{step_there, value_there}
 use Rattle.syn_expr.proofs.TermSyntaxes.{fold-Number, fold-RowVar, fold-Alone, fold-Applied, by_term_syntax}

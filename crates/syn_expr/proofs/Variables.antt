@@ -12,7 +12,6 @@ use Rattle.syn_term.specs.declared.term.Place.{Place}
 use Rattle.syn_term.specs.declared.term.Node.TheViews as node_view
 use Rattle.syn_term.specs.Terms.{TermTree}
 use Rattle.syn_term.proofs.Trees.{fold-App}
-use Rattle.syn_form.specs.declared.trees.Form.TheViews as view
 use Rattle.syn_form.specs.declared.trees.QForm.TheViews as qview
 use Rattle.syn_form.specs.Plain.{HasOneSortEach}
 use Rattle.syn_form.specs.Quantified.{qform_vars, qform_vars_step}
