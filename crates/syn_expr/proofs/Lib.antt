@@ -21,3 +21,4 @@ pub mod FormCounts
 pub mod PlainCounts
 pub mod Variables
 pub mod ProperTrees
+pub mod Owning

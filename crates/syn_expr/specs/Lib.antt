@@ -5,3 +5,4 @@ pub mod Elaborating
 pub mod Limits
 pub mod Sorted
 pub mod Proper
+pub mod Belonging
