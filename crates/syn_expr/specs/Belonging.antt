@@ -14,7 +14,11 @@ use Rattle.syn_form.specs.declared.trees.QForm.TheOpen.{QForm-F}
 use Rattle.syn_form.specs.declared.trees.QForm.TheVariants as form
 use Rattle.syn_form.specs.declared.trees.QForm.TheViews as view
 use Rattle.syn_form.specs.Elaboration.{quantifier_tree}
-use Rattle.syn_form.specs.Trees.{QFormTree, all_of}
+use Rattle.syn_form.specs.declared.trees.Out.{roll-Out, fold-roll-Out}
+use Rattle.syn_form.specs.declared.trees.Out.TheOpen.{Out-F}
+use Rattle.syn_form.specs.declared.trees.Out.TheVariants as out
+use Rattle.syn_form.specs.declared.trees.Out.TheViews as out_view
+use Rattle.syn_form.specs.Trees.{FormTree, OutTree, QFormTree, all_of, form_terms, out_terms, out_terms_step}
 
 abbrev pub qform_terms_step : QForm-F (List TermTree) → List TermTree
 qform_terms_step (QForm-F.Atom r args) = args
@@ -93,3 +97,42 @@ QFormBelongs-quantifier b quantifier.Exists x v f h = by_terms b (quantifier_tre
 -- the terms of a formula that belongs
 pub QFormBelongs-terms : (b : Kept) (f : QFormTree) → QFormBelongs b f → All (Belongs b) (qform_terms f)
 QFormBelongs-terms b f h = terms_of b f h
+
+-- each term of a formula without quantifiers, or of an output, belongs to the bank
+pub FormBelongs : Kept → FormTree → Type 0
+FormBelongs b f = All (Belongs b) (form_terms f)
+
+pub OutBelongs : Kept → OutTree → Type 0
+OutBelongs b o = All (Belongs b) (out_terms o)
+
+pub FormBelongs-extends : (a b : Kept) (f : FormTree) → Extends a b → FormBelongs a f → FormBelongs b f
+unfolding FormBelongs
+FormBelongs-extends a b f more h = All-weaker (Belongs a) (Belongs b) (λ t k. Belongs-extends a b t more k) (form_terms f) h
+
+pub OutBelongs-extends : (a b : Kept) (o : OutTree) → Extends a b → OutBelongs a o → OutBelongs b o
+unfolding OutBelongs
+OutBelongs-extends a b o more h = All-weaker (Belongs a) (Belongs b) (λ t k. Belongs-extends a b t more k) (out_terms o) h
+
+pub FormBelongs-terms : (b : Kept) (f : FormTree) → FormBelongs b f → All (Belongs b) (form_terms f)
+unfolding FormBelongs
+FormBelongs-terms b f h = h
+
+pub FormBelongs-from : (b : Kept) (f : FormTree) → All (Belongs b) (form_terms f) → FormBelongs b f
+unfolding FormBelongs
+FormBelongs-from b f h = h
+
+pub OutBelongs-terms : (b : Kept) (o : OutTree) → OutBelongs b o → All (Belongs b) (out_terms o)
+unfolding OutBelongs
+OutBelongs-terms b o h = h
+
+out_by_terms : (b : Kept) (o : OutTree) (ts : List TermTree) → out_terms o ≡ ts → All (Belongs b) ts → OutBelongs b o
+unfolding OutBelongs
+out_by_terms b o ts e h = subst (λ (z : List TermTree). All (Belongs b) z) (sym e) h
+
+pub OutBelongs-Give : (b : Kept) (t : TermTree) → Belongs b t → OutBelongs b (out.Give t)
+unfolding roll-Out roll
+OutBelongs-Give b t h = out_by_terms b (out.Give t) (t ∷ []) (fold-roll-Out (List TermTree) out_terms_step (Out-F.Give t)) (All-cons (Belongs b) t [] h (All-nil (Belongs b)))
+
+pub OutBelongs-If : (b : Kept) (f : FormTree) (u v : OutTree) → FormBelongs b f → OutBelongs b u → OutBelongs b v → OutBelongs b (out_view.If f u v)
+unfolding roll-Out roll
+OutBelongs-If b f u v h k l = out_by_terms b (out_view.If f u v) (form_terms f ++ (out_terms u ++ out_terms v)) (fold-roll-Out (List TermTree) out_terms_step (Out-F.If f u v)) (All-append (Belongs b) (form_terms f) (out_terms u ++ out_terms v) (FormBelongs-terms b f h) (All-append (Belongs b) (out_terms u) (out_terms v) (OutBelongs-terms b u k) (OutBelongs-terms b v l)))
