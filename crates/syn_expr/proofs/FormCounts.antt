@@ -1,10 +1,9 @@
 -- What is counted on the syntax tree of a formula is what its formula has.
 use Rattle.std.proofs.Common.{◌≡◌, ℕ, ◌+◌, ◌*◌, max, sum, Bool, true, false, List, [], ◌∷◌, Option, None, Some, All, map, length, if◌then◌else◌, refl, sym, ◌∙◌, ap, arith}
 use Rattle.std.specs.Option.{option_and_then, option_map}
-use Rattle.std.proofs.lemmas.List.Elements.{All-head, All-tail, All-contains}
+use Rattle.std.proofs.lemmas.List.Elements.{All-head, All-tail}
 use Rattle.syn_term.specs.declared.sorts.SymId.{SymId}
 use Rattle.syn_term.specs.declared.sorts.Var.{Var}
-use Rattle.syn_term.specs.Symbols.{SymbolTable}
 use Rattle.syn_term.specs.Terms.{TermTree, nodes, depth_of, greatest, sort_of}
 use Rattle.syn_form.specs.declared.syntax.TermSyntax.{TermSyntax}
 use Rattle.syn_form.specs.declared.syntax.Quantifier.{Quantifier}
@@ -16,7 +15,7 @@ use Rattle.syn_form.specs.declared.syntax.FormSyntax.TheViews as syntax_view
 use Rattle.syn_form.specs.declared.trees.Binder.{Binder}
 use Rattle.syn_form.specs.declared.trees.QForm.TheVariants as form
 use Rattle.syn_form.specs.declared.trees.QForm.TheViews as view
-use Rattle.syn_form.specs.Elaboration.{Reading, and_then, atom_tree, elaborate_form, elaborate_form_step, elaborate_term, equality_tree, in_turn, mapped, nested, quantified_reading, quantifier_tree, sorted_atom, sorted_equality, steady, symbol_named, two_ways}
+use Rattle.syn_form.specs.Elaboration.{Reading, and_then, atom_tree, elaborate_form, elaborate_form_step, elaborate_term, equality_tree, in_turn, mapped, nested, quantified_reading, quantifier_tree, sorted_atom, sorted_equality, symbol_named}
 use Rattle.syn_form.specs.Lists.{all_there}
 use Rattle.syn_form.specs.Quantified.{qform_nodes, qform_nodes_step, qform_depth, qform_depth_step}
 use Rattle.syn_form.specs.Scopes.{TextScope, with_name}
@@ -25,7 +24,7 @@ use Rattle.syn_form.specs.Trees.{QFormTree}
 use Rattle.syn_expr.specs.Elaborating.{binder_var}
 use Rattle.syn_expr.specs.Limits.{form_cost, form_cost_step, form_levels, form_levels_step, term_cost, term_levels}
 use Rattle.syn_expr.proofs.FormMaking.{both, bound_is}
-use Rattle.syn_expr.proofs.FormSyntaxes.{FormSyntaxCases, by_form_syntax, fold-True, fold-False, fold-Atom, fold-Equal, fold-Not, fold-And, fold-Or, fold-Implies, fold-BothWays, fold-Quantified}
+use Rattle.syn_expr.proofs.FormSyntaxes.{by_form_syntax, fold-True, fold-False, fold-Atom, fold-Equal, fold-Not, fold-And, fold-Or, fold-Implies, fold-BothWays, fold-Quantified}
 use Rattle.syn_expr.proofs.QForms.{qfold-True, qfold-False, qfold-Atom, qfold-Equal, qfold-Not, qfold-And, qfold-Or, qfold-Implies, qfold-All, qfold-Exists}
 use Rattle.syn_expr.proofs.TermCounts.{all_counted, step_there, term_nodes_are, term_depth_is, value_there}
 

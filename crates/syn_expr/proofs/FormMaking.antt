@@ -1,5 +1,5 @@
 -- What is made of formulas as they are written.
-use Rattle.std.proofs.Common.{◌≡◌, ℕ, suc, ◌+◌, ◌-◌, ◌<◌, ◌≤◌, Bool, true, false, List, [], ◌∷◌, ◌++◌, Option, None, Some, IsTrue, map, length, take, drop, get_or, if◌then◌else◌, ◌==◌, refl, sym, ◌∙◌, ap, subst, arith, append_assoc, append-nil, true≢false}
+use Rattle.std.proofs.Common.{◌≡◌, ℕ, suc, ◌+◌, ◌-◌, ◌<◌, ◌≤◌, Bool, true, false, List, [], ◌∷◌, ◌++◌, Option, None, Some, map, length, take, drop, get_or, if◌then◌else◌, ◌==◌, refl, sym, ◌∙◌, ap, subst, arith, append_assoc, append-nil, true≢false}
 use Rattle.std.specs.Option.{option_and_then, option_map}
 use Rattle.std.proofs.Math.Seq.{drop-cons}
 use Rattle.std.proofs.lemmas.Bool.{false_from_ne_true}
@@ -15,14 +15,14 @@ use Rattle.syn_form.specs.declared.syntax.Quantifier.TheVariants as quantifier
 use Rattle.syn_form.specs.declared.syntax.BinderSyntax.{BinderSyntax}
 use Rattle.syn_form.specs.declared.syntax.FormSyntax.{FormSyntax}
 use Rattle.syn_form.specs.declared.trees.QForm.TheVariants as form
-use Rattle.syn_form.specs.Elaboration.{Reading, and_then, atom_tree, binder_sort, bound, elaborate_form, elaborate_term, in_turn, is_free, mapped, nested, numbered_var, quantifier_tree, sorted_atom, symbol_named}
+use Rattle.syn_form.specs.Elaboration.{Reading, atom_tree, binder_sort, bound, elaborate_form, elaborate_term, in_turn, is_free, mapped, nested, numbered_var, quantifier_tree, sorted_atom, symbol_named}
 use Rattle.syn_form.specs.Lists.{all_there}
 use Rattle.syn_form.specs.Plain.{IsAtom}
 use Rattle.syn_form.specs.Quantified.{bare_qform, bare_qform_step}
 use Rattle.syn_form.specs.Scopes.{TextScope, with_name}
 use Rattle.syn_form.specs.Sorts.{makes_atom}
 use Rattle.syn_form.specs.Trees.{QFormTree}
-use Rattle.syn_expr.specs.Elaborating.{bare_reading, bare_readings, binder_var}
+use Rattle.syn_expr.specs.Elaborating.{bare_reading, binder_var}
 use Rattle.syn_expr.proofs.Options.{one_missing}
 use Rattle.syn_expr.proofs.QForms.{qfold-All, qfold-Atom, qfold-Exists}
 use Rattle.syn_expr.proofs.Sorting.{atom_of, makes_atom_of, makes_atom_bare}

@@ -1,5 +1,5 @@
 -- The equations of functions of formulas and outputs as they are written, and induction on them.
-use Rattle.std.proofs.Common.{◌≡◌, ℕ, ◌⊎◌, inl, inr, List, [], ◌∷◌, All, map, ap, subst}
+use Rattle.std.proofs.Common.{◌≡◌, ℕ, List, [], ◌∷◌, All, map, subst}
 use Rattle.std.proofs.lemmas.List.Elements.{All-nil, All-cons}
 use denote.Hole.Carrier.{roll}
 use Rattle.syn_form.specs.declared.syntax.TermSyntax.{TermSyntax}

@@ -26,3 +26,6 @@ pub mod Unquantifying
 pub mod OutMaking
 pub mod FormCounts
 pub mod PlainCounts
+pub mod Variables
+pub mod ProperTrees
+pub mod Owning

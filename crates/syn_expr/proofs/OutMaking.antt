@@ -1,5 +1,5 @@
 -- What is made of outputs as they are written.
-use Rattle.std.proofs.Common.{◌≡◌, ℕ, Bool, true, false, Option, None, Some, if◌then◌else◌, refl, sym, ◌∙◌, ap}
+use Rattle.std.proofs.Common.{◌≡◌, ℕ, Bool, true, false, Option, None, Some, if◌then◌else◌, sym, ◌∙◌, ap}
 use Rattle.std.specs.Option.{option_and_then, option_map}
 use Rattle.syn_term.specs.declared.sorts.Sort.{Sort}
 use Rattle.syn_term.specs.Symbols.{SymbolTable}
@@ -8,7 +8,7 @@ use Rattle.syn_form.specs.declared.syntax.FormSyntax.{FormSyntax}
 use Rattle.syn_form.specs.declared.trees.Out.TheViews as view
 use Rattle.syn_form.specs.Elaboration.{elaborate_form, elaborate_plain, sorted_choice}
 use Rattle.syn_form.specs.Plain.{given_sort, given_sort_step}
-use Rattle.syn_form.specs.Quantified.{bare_qform, unquantified}
+use Rattle.syn_form.specs.Quantified.{unquantified}
 use Rattle.syn_form.specs.Scopes.{TextScope}
 use Rattle.syn_form.specs.Sorts.{are_of_one_sort}
 use Rattle.syn_form.specs.Trees.{FormTree, OutTree, QFormTree, bare_form, bare_out}

@@ -1,5 +1,5 @@
 -- What is counted on the syntax trees of formulas without quantifiers, and of outputs, is what these have.
-use Rattle.std.proofs.Common.{◌≡◌, ℕ, ◌+◌, max, sum, List, [], ◌∷◌, Option, None, Some, All, map, refl, sym, ◌∙◌, ap}
+use Rattle.std.proofs.Common.{◌≡◌, ℕ, ◌+◌, max, sum, List, None, Some, All, map, sym, ◌∙◌, ap}
 use Rattle.std.specs.Option.{option_and_then, option_map}
 use Rattle.syn_term.specs.declared.sorts.SymId.{SymId}
 use Rattle.syn_term.specs.Terms.{TermTree, nodes, depth_of, greatest}
@@ -8,7 +8,6 @@ use Rattle.syn_form.specs.declared.syntax.TermSyntax.{TermSyntax}
 use Rattle.syn_form.specs.declared.syntax.OutSyntax.{OutSyntax}
 use Rattle.syn_form.specs.declared.syntax.OutSyntax.TheVariants as out_syntax
 use Rattle.syn_form.specs.declared.syntax.OutSyntax.TheViews as out_syntax_view
-use Rattle.syn_form.specs.declared.trees.Binder.{Binder}
 use Rattle.syn_form.specs.declared.trees.Form.TheVariants as form
 use Rattle.syn_form.specs.declared.trees.Form.TheViews as view
 use Rattle.syn_form.specs.declared.trees.QForm.TheVariants as qform
@@ -26,7 +25,7 @@ use Rattle.syn_form.proofs.Equations.{form_nodes-True, form_nodes-False, form_no
 use Rattle.syn_expr.specs.Limits.{form_cost, form_levels, out_cost, out_cost_step, out_levels, out_levels_step, term_cost, term_levels}
 use Rattle.syn_expr.proofs.FormCounts.{chosen_is, form_nodes_are, form_depth_is}
 use Rattle.syn_expr.proofs.FormSyntaxes.{by_out_syntax, fold-Give, fold-If}
-use Rattle.syn_expr.proofs.QForms.{QFormCases, by_qform_cases, qfold-True, qfold-False, qfold-Atom, qfold-Equal, qfold-Not, qfold-And, qfold-Or, qfold-Implies, qfold-All, qfold-Exists}
+use Rattle.syn_expr.proofs.QForms.{by_qform_cases, qfold-True, qfold-False, qfold-Atom, qfold-Equal, qfold-Not, qfold-And, qfold-Or, qfold-Implies, qfold-All, qfold-Exists}
 use Rattle.syn_expr.proofs.TermCounts.{all_counted, step_there, term_nodes_are, term_depth_is, value_there}
 
 -- a number of a formula without quantifiers, and of one with them, each from those of its parts

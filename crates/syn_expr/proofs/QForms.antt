@@ -1,5 +1,5 @@
 -- The equations of functions of formulas with quantifiers, and induction on them.
-use Rattle.std.proofs.Common.{◌≡◌, ℕ, List, [], ◌∷◌, All, map, subst}
+use Rattle.std.proofs.Common.{◌≡◌, List, [], ◌∷◌, All, map, subst}
 use Rattle.std.proofs.lemmas.List.Elements.{All-nil, All-cons}
 use denote.Hole.Carrier.{roll}
 use Rattle.syn_term.specs.declared.sorts.SymId.{SymId}

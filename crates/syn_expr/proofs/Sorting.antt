@@ -1,9 +1,7 @@
 -- Which symbols take which terms: the truth values and the facts say the same, and places make no difference.
-use Rattle.std.proofs.Common.{◌≡◌, ◌≢◌, ◌⊎◌, ℕ, Bool, true, false, not, ◌&&◌, List, [], ◌∷◌, rules, Option, None, Some, map, refl, sym, ◌∙◌, ap, nat_eq, true≢false, arith}
-use Rattle.std.specs.Prelude.{slice_get}
+use Rattle.std.proofs.Common.{◌≡◌, ◌≢◌, ◌⊎◌, Bool, true, false, not, ◌&&◌, List, [], ◌∷◌, rules, Option, None, Some, map, refl, sym, ◌∙◌, ap, true≢false, arith}
 use Rattle.std.specs.Option.{option_and_then}
 use Rattle.std.proofs.lemmas.Bool.Decides.{nat_tests}
-use Rattle.std.proofs.lemmas.Bool.{false_from_ne_true}
 use mathlib.Core.Logic.{inl, inr}
 use denote.Hole.Carrier.{roll}
 use Rattle.syn_term.specs.declared.sorts.Sort.{Sort}
@@ -14,17 +12,17 @@ use Rattle.syn_term.specs.declared.sorts.Var.{Var}
 use Rattle.syn_term.specs.declared.sorts.Kind.{Kind}
 use Rattle.syn_term.specs.declared.sorts.Kind.TheVariants as kind
 use Rattle.syn_term.specs.declared.term.Place.{Place}
-use Rattle.syn_term.specs.declared.term.Node.{Node, out-Node, roll-Node, map-Node, fold-Node}
+use Rattle.syn_term.specs.declared.term.Node.{Node, out-Node, roll-Node, map-Node}
 use Rattle.syn_term.specs.declared.term.Node.TheOpen.{Node-F}
 use Rattle.syn_term.specs.declared.term.Node.TheVariants as node
 use Rattle.syn_term.specs.declared.term.Node.TheViews as view
 use Rattle.syn_term.specs.declared.term.Node.TheViews.{the_lemmas}
 use Rattle.syn_term.specs.Symbols.{SymbolTable, symbol_at}
-use Rattle.syn_term.specs.Terms.{TermTree, IsApplication, bare, bare_step, nowhere, application, variable_tree, sort_of, head_of}
+use Rattle.syn_term.specs.Terms.{TermTree, IsApplication, bare, bare_step, nowhere, sort_of, head_of}
 use Rattle.syn_term.proofs.Trees.{bare-App, by_terms, fold-Var}
 use Rattle.syn_form.specs.Plain.{IsAtom}
 use Rattle.syn_expr.specs.Elaborating.{head_sort}
-use Rattle.syn_form.specs.Sorts.{same_sort, is_of_sort, are_of_one_sort, are_of_sorts, is_relation, makes_term, makes_atom}
+use Rattle.syn_form.specs.Sorts.{same_sort, is_of_sort, are_of_sorts, is_relation, makes_term, makes_atom}
 
 same_sort_to : (r s : Sort) → same_sort r s ≡ true → r ≡ s
 same_sort_to sort.Nat sort.Nat h = refl

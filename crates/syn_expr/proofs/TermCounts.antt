@@ -1,5 +1,5 @@
 -- What is counted on the syntax tree of a term is what its term has.
-use Rattle.std.proofs.Common.{◌≡◌, ℕ, zero, suc, ◌+◌, max, sum, Bool, true, false, List, [], ◌∷◌, Option, None, Some, All, map, nat_lt, if◌then◌else◌, refl, sym, ◌∙◌, ap, arith}
+use Rattle.std.proofs.Common.{◌≡◌, ℕ, zero, suc, ◌+◌, sum, Bool, true, false, List, [], ◌∷◌, Option, None, Some, All, map, nat_lt, if◌then◌else◌, refl, sym, ◌∙◌, ap, arith}
 use Rattle.std.specs.Prelude.{codes}
 use Rattle.std.specs.Option.{option_and_then, option_map}
 use Rattle.std.proofs.lemmas.List.Elements.{All-head, All-tail}
@@ -14,7 +14,7 @@ use Rattle.syn_form.specs.declared.syntax.TermSyntax.{TermSyntax}
 use Rattle.syn_form.specs.declared.syntax.TermSyntax.TheVariants as term
 use Rattle.syn_form.specs.declared.syntax.TermSyntax.TheViews as view
 use Rattle.syn_form.specs.Sorts.{makes_term}
-use Rattle.syn_form.specs.Elaboration.{sorted_application, symbol_named, successors, number_tree, written_sort, row_tree, head_symbol, head_var, alone_tree, applied_tree, elaborate_term, elaborate_term_step}
+use Rattle.syn_form.specs.Elaboration.{sorted_application, symbol_named, successors, written_sort, head_symbol, head_var, alone_tree, applied_tree, elaborate_term, elaborate_term_step}
 use Rattle.syn_form.specs.Lists.{all_there}
 use Rattle.syn_form.specs.Scopes.{TextScope}
 use Rattle.syn_expr.specs.Limits.{term_cost, term_cost_step, term_levels, term_levels_step}

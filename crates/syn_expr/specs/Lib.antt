@@ -7,3 +7,6 @@ pub mod BindingMachine
 pub mod ItemMachine
 pub mod Elaborating
 pub mod Limits
+pub mod Sorted
+pub mod Proper
+pub mod Belonging

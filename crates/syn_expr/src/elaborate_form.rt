@@ -1,11 +1,12 @@
 // The formula that a syntax tree stands for, made by a bank. A binder's name is in scope of what is
 // read inside: it stands on the stack of the calls.
-ghost use Rattle.std.specs.Prelude.{◌≡◌, map, IfOk};
+ghost use Rattle.std.specs.Prelude.{◌≡◌, All, map, IfOk, IfSome};
 ghost use Rattle.std.specs.Option.{option_map};
 ghost use Rattle.syn_term.specs.Bank.{Extends};
 ghost use Rattle.syn_form.specs.Elaboration as elaboration;
 ghost use Rattle.syn_form.specs.Elaboration.{and_then, in_turn, nested, two_ways};
 ghost use Rattle.syn_form.specs.declared.trees.QForm.TheViews as view;
+ghost use Rattle.syn_expr.specs.Belonging.{QFormBelongs};
 ghost use Rattle.syn_expr.specs.Elaborating.{bare_reading, bare_readings};
 ghost use Rattle.syn_expr.specs.Places.{spoken_at};
 
@@ -24,7 +25,7 @@ use syn_term::{Bank, NoMemory, Text};
 /// isn't there or may not be bound, or sorts don't fit. The binders are numbered from `next` on. The
 /// one error is want of memory, or of numbers.
 #[cycle(forms)]
-#[tactic(auto, using(crate::proofs::Growth::growth))]
+#[tactic(auto, using(crate::proofs::Owning::owning))]
 pub(crate) fn elaborate_form(
     alloc: Global,
     bank: &mut Bank,
@@ -34,6 +35,7 @@ pub(crate) fn elaborate_form(
 ) -> Result<Option<(QForm, u32)>, NoMemory>
     ensures tree { IfOk result (λ o. option_map bare_reading o ≡ elaboration.elaborate_form syntax.now (spoken_at place.now) next) }
     ensures extends { Extends bank.old bank.new }
+    ensures belongs { IfOk result (λ o. IfSome o (λ r. QFormBelongs bank.new r.0)) }
 {
     match syntax {
         FormSyntax::True => Ok(Some((QForm::True, next))),
@@ -79,7 +81,7 @@ pub(crate) fn elaborate_form(
 
 /// The formulas that the syntax trees stand for, one after the other.
 #[cycle(forms)]
-#[tactic(auto, using(crate::proofs::Growth::growth))]
+#[tactic(auto, using(crate::proofs::Owning::owning))]
 fn elaborate_forms(
     alloc: Global,
     bank: &mut Bank,
@@ -89,6 +91,7 @@ fn elaborate_forms(
 ) -> Result<Option<(Items<QForm>, u32)>, NoMemory>
     ensures tree { IfOk result (λ o. option_map bare_readings o ≡ in_turn (map elaboration.elaborate_form all.now) (spoken_at place.now) next) }
     ensures extends { Extends bank.old bank.new }
+    ensures belongs { IfOk result (λ o. IfSome o (λ r. All (QFormBelongs bank.new) r.0)) }
 {
     let mut parts = Items::new(alloc);
     let mut after = next;
@@ -106,7 +109,7 @@ fn elaborate_forms(
 
 /// The implication from the first to the second.
 #[cycle(forms)]
-#[tactic(auto, using(crate::proofs::Growth::growth))]
+#[tactic(auto, using(crate::proofs::Owning::owning))]
 fn implication(
     alloc: Global,
     bank: &mut Bank,
@@ -117,6 +120,7 @@ fn implication(
 ) -> Result<Option<(QForm, u32)>, NoMemory>
     ensures tree { IfOk result (λ o. option_map bare_reading o ≡ and_then view.Implies (elaboration.elaborate_form a.now) (elaboration.elaborate_form b.now) (spoken_at place.now) next) }
     ensures extends { Extends bank.old bank.new }
+    ensures belongs { IfOk result (λ o. IfSome o (λ r. QFormBelongs bank.new r.0)) }
 {
     let Some((left, after)) = elaborate_form(alloc, bank, place, next, a)? else {
         return Ok(None);
@@ -129,7 +133,7 @@ fn implication(
 
 /// The implications both ways, each with binders of its own; rows have none.
 #[cycle(forms)]
-#[tactic(auto, using(crate::proofs::Growth::growth))]
+#[tactic(auto, using(crate::proofs::Owning::owning))]
 fn both_ways(
     alloc: Global,
     bank: &mut Bank,
@@ -140,6 +144,7 @@ fn both_ways(
 ) -> Result<Option<(QForm, u32)>, NoMemory>
     ensures tree { IfOk result (λ o. option_map bare_reading o ≡ two_ways (elaboration.elaborate_form a.now) (elaboration.elaborate_form b.now) (spoken_at place.now) next) }
     ensures extends { Extends bank.old bank.new }
+    ensures belongs { IfOk result (λ o. IfSome o (λ r. QFormBelongs bank.new r.0)) }
 {
     if place.rows {
         return Ok(None);
@@ -155,7 +160,7 @@ fn both_ways(
 
 /// The formula under quantifiers, one for each binder, the first the outermost.
 #[cycle(forms)]
-#[tactic(auto, using(crate::proofs::Growth::growth))]
+#[tactic(auto, using(crate::proofs::Owning::owning))]
 fn quantified(
     alloc: Global,
     bank: &mut Bank,
@@ -167,6 +172,7 @@ fn quantified(
 ) -> Result<Option<(QForm, u32)>, NoMemory>
     ensures tree { IfOk result (λ o. option_map bare_reading o ≡ nested quantifier binders.now (elaboration.elaborate_form a.now) (spoken_at place.now) next) }
     ensures extends { Extends bank.old bank.new }
+    ensures belongs { IfOk result (λ o. IfSome o (λ r. QFormBelongs bank.new r.0)) }
 {
     match binders {
         [] => elaborate_form(alloc, bank, place, next, a),

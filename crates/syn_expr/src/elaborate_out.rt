@@ -1,10 +1,11 @@
 // The formula without quantifiers, and the output, that a syntax tree stands for, made by a bank.
-ghost use Rattle.std.specs.Prelude.{◌≡◌, IfOk};
+ghost use Rattle.std.specs.Prelude.{◌≡◌, IfOk, IfSome};
 ghost use Rattle.std.specs.Option.{option_map};
-ghost use Rattle.syn_term.specs.Bank.{Extends};
+ghost use Rattle.syn_term.specs.Bank.{Extends, Kept};
 ghost use Rattle.syn_form.specs.Elaboration as elaboration;
 ghost use Rattle.syn_form.specs.Plain as plain;
 ghost use Rattle.syn_form.specs.Trees.{bare_form, bare_out};
+ghost use Rattle.syn_expr.specs.Belonging.{FormBelongs, OutBelongs};
 ghost use Rattle.syn_expr.specs.Places.{spoken_at};
 
 use crate::elaborate_form::elaborate_form;
@@ -18,7 +19,7 @@ use syn_term::{Bank, NoMemory, Shared, Sort, Symbols};
 
 /// The formula without quantifiers that the syntax tree stands for; None where it stands for none.
 /// The one error is want of memory, or of numbers for binders.
-#[tactic(auto, using(crate::proofs::Growth::growth))]
+#[tactic(auto, using(crate::proofs::Owning::owning_outs))]
 pub(crate) fn elaborate_plain(
     alloc: Global,
     bank: &mut Bank,
@@ -27,6 +28,7 @@ pub(crate) fn elaborate_plain(
 ) -> Result<Option<Form>, NoMemory>
     ensures tree { IfOk result (λ o. option_map bare_form o ≡ elaboration.elaborate_plain (spoken_at place.now) syntax.now) }
     ensures extends { Extends bank.old bank.new }
+    ensures belongs { IfOk result (λ o. IfSome o (FormBelongs bank.new)) }
 {
     match elaborate_form(alloc, bank, place, 1, syntax)? {
         None => Ok(None),
@@ -45,8 +47,10 @@ fn given_sort(syms: &Symbols, o: &Out) -> Option<Sort>
 }
 
 /// The choice between two arms; None where they don't give terms of one sort.
+#[tactic(auto, using(crate::proofs::Owning::owning_outs))]
 fn choice(alloc: Global, syms: &Symbols, f: Form, u: Out, v: Out) -> Result<Option<Out>, NoMemory>
-    ensures { IfOk result (λ o. option_map bare_out o ≡ elaboration.sorted_choice syms.now (bare_form f) (bare_out u) (bare_out v)) }
+    ensures tree { IfOk result (λ o. option_map bare_out o ≡ elaboration.sorted_choice syms.now (bare_form f) (bare_out u) (bare_out v)) }
+    ensures belongs { (b : Kept) → FormBelongs b f → OutBelongs b u → OutBelongs b v → IfOk result (λ o. IfSome o (OutBelongs b)) }
 {
     if are_of_one_sort(given_sort(syms, &u), given_sort(syms, &v)) {
         let f = Shared::new(alloc, f)?;
@@ -60,7 +64,7 @@ fn choice(alloc: Global, syms: &Symbols, f: Form, u: Out, v: Out) -> Result<Opti
 
 /// The output that the syntax tree stands for; None where a name isn't there, sorts don't fit or a
 /// test has a quantifier. The one error is want of memory, or of numbers for binders.
-#[tactic(auto, using(crate::proofs::Growth::growth))]
+#[tactic(auto, using(crate::proofs::Owning::owning_outs))]
 pub(crate) fn elaborate_out(
     alloc: Global,
     bank: &mut Bank,
@@ -69,6 +73,7 @@ pub(crate) fn elaborate_out(
 ) -> Result<Option<Out>, NoMemory>
     ensures tree { IfOk result (λ o. option_map bare_out o ≡ elaboration.elaborate_out (spoken_at place.now) syntax.now) }
     ensures extends { Extends bank.old bank.new }
+    ensures belongs { IfOk result (λ o. IfSome o (OutBelongs bank.new)) }
 {
     match syntax {
         OutSyntax::Give(t) => match elaborate_term(alloc, bank, place, t)? {

@@ -1,13 +1,14 @@
 // Formulas made from their parts: atoms and equalities from syntax trees, the rest from what was read.
 ghost use Rattle.std.specs.Prelude.{◌≡◌, [], ◌∷◌, All, map, IfOk, IfSome};
 ghost use Rattle.std.specs.Option.{option_and_then, option_map};
-ghost use Rattle.syn_term.specs.Bank.{Belongs, Extends};
+ghost use Rattle.syn_term.specs.Bank.{Belongs, Extends, Kept};
 ghost use Rattle.syn_term.specs.Terms.{bare};
 ghost use Rattle.syn_form.specs.Elaboration as elaboration;
 ghost use Rattle.syn_form.specs.Elaboration.{quantifier_tree, sorted_atom};
 ghost use Rattle.syn_form.specs.Lists.{all_there};
 ghost use Rattle.syn_form.specs.Quantified.{bare_qform};
 ghost use Rattle.syn_form.specs.declared.trees.QForm.TheViews as view;
+ghost use Rattle.syn_expr.specs.Belonging.{QFormBelongs};
 ghost use Rattle.syn_expr.specs.Elaborating.{bare_reading, bare_readings};
 ghost use Rattle.syn_expr.specs.Places.{spoken_at};
 
@@ -43,13 +44,15 @@ fn elaborate_terms(
 }
 
 /// The symbol before the terms; None where there is no symbol, or it makes no atom of them.
+#[tactic(auto, using(crate::proofs::Owning::owning))]
 fn atom(
     alloc: Global,
     syms: &Symbols,
     symbol: Option<SymId>,
     args: Items<Term>,
 ) -> Result<Option<QForm>, NoMemory>
-    ensures { IfOk result (λ o. option_map bare_qform o ≡ option_and_then (sorted_atom syms.now (map bare args)) symbol) }
+    ensures tree { IfOk result (λ o. option_map bare_qform o ≡ option_and_then (sorted_atom syms.now (map bare args)) symbol) }
+    ensures belongs { (b : Kept) → All (Belongs b) args → IfOk result (λ o. IfSome o (QFormBelongs b)) }
 {
     let Some(r) = symbol else {
         return Ok(None);
@@ -61,7 +64,7 @@ fn atom(
 }
 
 /// The atom that a name with arguments stands for.
-#[tactic(auto, using(crate::proofs::Growth::growth))]
+#[tactic(auto, using(crate::proofs::Owning::owning))]
 pub(crate) fn elaborate_atom(
     alloc: Global,
     bank: &mut Bank,
@@ -71,6 +74,7 @@ pub(crate) fn elaborate_atom(
 ) -> Result<Option<QForm>, NoMemory>
     ensures tree { IfOk result (λ o. option_map bare_qform o ≡ elaboration.atom_tree (spoken_at place.now) name.now (map (elaboration.elaborate_term (spoken_at place.now)) args.now)) }
     ensures extends { Extends bank.old bank.new }
+    ensures belongs { IfOk result (λ o. IfSome o (QFormBelongs bank.new)) }
 {
     if args.is_empty() {
         return Ok(None);
@@ -87,8 +91,10 @@ pub(crate) fn elaborate_atom(
 }
 
 /// The equality of two terms; None where they aren't of one sort.
+#[tactic(auto, using(crate::proofs::Owning::owning))]
 fn equality(syms: &Symbols, s: Term, t: Term) -> Option<QForm>
-    ensures { option_map bare_qform result ≡ elaboration.sorted_equality syms.now (bare s) (bare t) }
+    ensures tree { option_map bare_qform result ≡ elaboration.sorted_equality syms.now (bare s) (bare t) }
+    ensures belongs { (b : Kept) → Belongs b s → Belongs b t → IfSome result (QFormBelongs b) }
 {
     if are_of_one_sort(sort_in(syms, &s), sort_in(syms, &t)) {
         Some(QForm::Equal(s, t))
@@ -98,7 +104,7 @@ fn equality(syms: &Symbols, s: Term, t: Term) -> Option<QForm>
 }
 
 /// The equality that two sides stand for.
-#[tactic(auto, using(crate::proofs::Growth::growth))]
+#[tactic(auto, using(crate::proofs::Owning::owning))]
 pub(crate) fn elaborate_equality(
     alloc: Global,
     bank: &mut Bank,
@@ -108,6 +114,7 @@ pub(crate) fn elaborate_equality(
 ) -> Result<Option<QForm>, NoMemory>
     ensures tree { IfOk result (λ o. option_map bare_qform o ≡ elaboration.equality_tree (spoken_at place.now) (elaboration.elaborate_term (spoken_at place.now) s.now) (elaboration.elaborate_term (spoken_at place.now) t.now)) }
     ensures extends { Extends bank.old bank.new }
+    ensures belongs { IfOk result (λ o. IfSome o (QFormBelongs bank.new)) }
 {
     let Some(s) = elaborate_term(alloc, bank, place, s)? else {
         return Ok(None);
@@ -119,8 +126,10 @@ pub(crate) fn elaborate_equality(
 }
 
 /// What has no binder leaves the number of the next one.
+#[tactic(auto, using(crate::proofs::Owning::owning))]
 pub(crate) fn steady(read: Option<QForm>, next: u32) -> Option<(QForm, u32)>
-    ensures { option_map bare_reading result ≡ option_map (λ a. (a, next)) (option_map bare_qform read) }
+    ensures tree { option_map bare_reading result ≡ option_map (λ a. (a, next)) (option_map bare_qform read) }
+    ensures belongs { (b : Kept) → IfSome read (QFormBelongs b) → IfSome result (λ r. QFormBelongs b r.0) }
 {
     match read {
         None => None,
@@ -129,11 +138,13 @@ pub(crate) fn steady(read: Option<QForm>, next: u32) -> Option<(QForm, u32)>
 }
 
 /// The negation of what was read.
+#[tactic(auto, using(crate::proofs::Owning::owning))]
 pub(crate) fn negated(
     alloc: Global,
     read: Option<(QForm, u32)>,
 ) -> Result<Option<(QForm, u32)>, NoMemory>
-    ensures { IfOk result (λ o. option_map bare_reading o ≡ option_map (λ a. (view.Not a.0, a.1)) (option_map bare_reading read)) }
+    ensures tree { IfOk result (λ o. option_map bare_reading o ≡ option_map (λ a. (view.Not a.0, a.1)) (option_map bare_reading read)) }
+    ensures belongs { (b : Kept) → IfSome read (λ r. QFormBelongs b r.0) → IfOk result (λ o. IfSome o (λ r. QFormBelongs b r.0)) }
 {
     match read {
         None => Ok(None),
@@ -142,11 +153,13 @@ pub(crate) fn negated(
 }
 
 /// The `and` of what was read.
+#[tactic(auto, using(crate::proofs::Owning::owning))]
 pub(crate) fn conjunction(
     alloc: Global,
     read: Option<(Items<QForm>, u32)>,
 ) -> Result<Option<(QForm, u32)>, NoMemory>
-    ensures { IfOk result (λ o. option_map bare_reading o ≡ option_map (λ a. (view.And a.0, a.1)) (option_map bare_readings read)) }
+    ensures tree { IfOk result (λ o. option_map bare_reading o ≡ option_map (λ a. (view.And a.0, a.1)) (option_map bare_readings read)) }
+    ensures belongs { (b : Kept) → IfSome read (λ r. All (QFormBelongs b) r.0) → IfOk result (λ o. IfSome o (λ r. QFormBelongs b r.0)) }
 {
     match read {
         None => Ok(None),
@@ -155,11 +168,13 @@ pub(crate) fn conjunction(
 }
 
 /// The `or` of what was read.
+#[tactic(auto, using(crate::proofs::Owning::owning))]
 pub(crate) fn disjunction(
     alloc: Global,
     read: Option<(Items<QForm>, u32)>,
 ) -> Result<Option<(QForm, u32)>, NoMemory>
-    ensures { IfOk result (λ o. option_map bare_reading o ≡ option_map (λ a. (view.Or a.0, a.1)) (option_map bare_readings read)) }
+    ensures tree { IfOk result (λ o. option_map bare_reading o ≡ option_map (λ a. (view.Or a.0, a.1)) (option_map bare_readings read)) }
+    ensures belongs { (b : Kept) → IfSome read (λ r. All (QFormBelongs b) r.0) → IfOk result (λ o. IfSome o (λ r. QFormBelongs b r.0)) }
 {
     match read {
         None => Ok(None),

@@ -26,6 +26,7 @@ mod stack;
 mod sorts;
 mod text;
 mod unquantified;
+mod vars;
 
 pub use print_forms::print_form;
 pub use print_outs::print_out;

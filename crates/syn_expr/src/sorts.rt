@@ -30,7 +30,7 @@ pub(crate) fn sort_in(syms: &Symbols, t: &Term) -> Option<Sort>
 }
 
 /// Whether the two sorts are one.
-fn same_sort(a: Sort, b: Sort) -> bool
+pub(crate) fn same_sort(a: Sort, b: Sort) -> bool
     ensures { result ≡ sorts.same_sort a b }
 {
     match (a, b) {

@@ -1,4 +1,3 @@
-use Rattle.std.proofs.Common.{sym, ◌∙◌}
 use Rattle.std.proofs.lemmas.Result.{IfOk-weaker}
 use Rattle.syn_term.specs.Bank.{Extends-trans}
 use Rattle.syn_expr.specs.Places.{spoken_at}
