@@ -8,3 +8,9 @@ mod FormSteps
 mod FormComplete
 mod FormSound
 mod FormExact
+pub mod MarkTable
+pub mod NotSpelled
+pub mod TokenTexts
+pub mod TokenLists
+mod DigitRuns
+pub mod LexemeLaws

@@ -8,6 +8,8 @@ mod examples;
 mod form_frames;
 mod form_reader;
 mod items;
+mod lexemes;
+mod marks;
 mod names;
 mod print_forms;
 mod print_outs;

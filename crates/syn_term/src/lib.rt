@@ -16,7 +16,7 @@ mod tokens;
 
 pub use bank::Bank;
 pub use memory::NoMemory;
-pub use names::{is_name, is_reserved, is_skolem_name};
+pub use names::{decimal_number, is_name, is_reserved, is_skolem_name};
 pub use pointer::Shared;
 pub use pos::Pos;
 pub use sorts::{Head, Kind, NamedSort, Shape, Sort, Sym, SymId, Var};

@@ -69,7 +69,9 @@ fn is_written(number: u32, text: &str) -> bool
 }
 
 // Reading takes a plus sign and zeros before a number, so what is read is printed again and compared.
-fn number_of(text: &str) -> Option<u32>
+/// The number below 2 to the 32nd whose decimal digits the text is, with no sign and no zero before
+/// others; None where there is none.
+pub fn decimal_number(text: &str) -> Option<u32>
     ensures { MatchOption result ((n : ℕ) → n < 2 ^ 32 → ¬ (text.now ≡ decimal n)) (λ n. (n < 2 ^ 32) × (text.now ≡ decimal n)) }
 {
     match text.parse::<u32>() {
@@ -87,7 +89,7 @@ fn number_of(text: &str) -> Option<u32>
 fn is_number(text: &str) -> bool
     ensures { IsTrue result ↔ IsNumber text.now }
 {
-    match number_of(text) {
+    match decimal_number(text) {
         None => false,
         Some(number) => 0 < number && number < NUMBER_END,
     }

@@ -1,6 +1,6 @@
 use Rattle.std.proofs.Common.{sym, ◌∙◌, true≢false}
 use Rattle.syn_term.proofs.NumberLemmas.{not_read, read_only}
-use Rattle.syn_term.proofs.names.number_of.Goals as goal
+use Rattle.syn_term.proofs.names.decimal_number.Goals as goal
 
 pub returns-in-Err : goal.returns-in-Err
 returns-in-Err c = not_read c.args.text.now c.parse.result c.in-Err.field-0 c.parse.ensures.value.0 c.in-Err.is
