@@ -29,3 +29,9 @@ pub mod PlainCounts
 pub mod Variables
 pub mod ProperTrees
 pub mod Owning
+pub mod MarkTable
+pub mod NotSpelled
+pub mod TokenTexts
+pub mod TokenLists
+mod DigitRuns
+pub mod LexemeLaws

@@ -10,3 +10,4 @@ pub mod Limits
 pub mod Sorted
 pub mod Proper
 pub mod Belonging
+pub mod Lexemes

@@ -16,6 +16,8 @@ mod elaborate_term;
 mod form_parts;
 mod limits;
 mod lookups;
+mod lexemes;
+mod marks;
 mod names;
 mod print_forms;
 mod print_outs;
