@@ -73,7 +73,7 @@ tall f = record { form = f; height = height_of f }
 abbrev pub bounded : FormSyntax → Option Tall
 bounded f = cond (nat_le (height_of f) max_height) (Some (tall f)) None
 
-cond_at : {A : Type 0} (b c : Bool) (x y : A) → b ≡ c → cond b x y ≡ cond c x y
+pub cond_at : {A : Type 0} (b c : Bool) (x y : A) → b ≡ c → cond b x y ≡ cond c x y
 cond_at b c x y e = ap (λ z. cond z x y) e
 
 pub bounded-low : (f : FormSyntax) → Low f → bounded f ≡ Some (tall f)
@@ -133,7 +133,7 @@ and_then-and_then : {A B C : Type 0} (g : B → Option C) (f : A → Option B) (
 and_then-and_then g f None = refl
 and_then-and_then g f (Some x) = refl
 
-and_then-some : {A : Type 0} (o : Option A) → option_and_then (λ (x : A). Some x) o ≡ o
+pub and_then-some : {A : Type 0} (o : Option A) → option_and_then (λ (x : A). Some x) o ≡ o
 and_then-some None = refl
 and_then-some (Some x) = refl
 

@@ -3,3 +3,4 @@ pub mod Items
 pub mod Places
 pub mod Heights
 pub mod FormMachine
+pub mod OutMachine

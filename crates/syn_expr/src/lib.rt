@@ -9,6 +9,9 @@ mod form_frames;
 mod form_reader;
 mod items;
 mod names;
+mod out_reader;
+#[cfg(test)]
+mod out_samples;
 mod print_forms;
 mod print_outs;
 mod print_qforms;
