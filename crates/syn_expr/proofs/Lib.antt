@@ -8,3 +8,4 @@ mod FormSteps
 mod FormComplete
 mod FormSound
 mod FormExact
+mod OutComplete
