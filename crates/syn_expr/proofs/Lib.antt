@@ -9,3 +9,5 @@ mod FormComplete
 mod FormSound
 mod FormExact
 mod OutComplete
+mod OutSound
+mod OutExact
