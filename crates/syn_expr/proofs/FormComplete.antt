@@ -16,10 +16,17 @@ use Rattle.syn_expr.specs.declared.form_frames.Tall.{Tall}
 use Rattle.syn_expr.specs.declared.form_frames.Bound.{Bound}
 use Rattle.syn_expr.specs.declared.form_reader.FormReader.{FormReader}
 use Rattle.syn_expr.specs.Items.{items_of_unary, items_of_conj, items_of_disj, items_of_imp, items_of_form}
+<<<<<<< HEAD
 use Rattle.syn_expr.specs.Heights.{height_of, Low}
 use Rattle.syn_expr.specs.FormMachine.{run, start, ended, parsed, wants, has, fresh, got, leaf, atom_of, atom_layer}
 use Rattle.syn_expr.proofs.FormLevels.{height-True, height-False, height-Atom, height-Equal, height-And, height-Or, height-Implies, height-BothWays, height-Quantified, highest_last, tall, bounded, bounded-low, no_times, no_times_low, conj_with, disj_with, imp_onto, bound_onto, Held, conj_of, disj_of, imp_of, form_of, frame_of, form_done-is}
 use Rattle.syn_expr.proofs.FormSteps.{Place, held_by, place, place_frame, wanting, having, seen, leaf-is, got-is, and_place, or_place, or_on, arrow_on, both_on, or_on-is, arrow_on-is, and-is, or-is, arrow-is, both-is, close-is}
+=======
+use Rattle.syn_expr.specs.Heights.{height_of, Low, max_height}
+use Rattle.syn_expr.specs.FormMachine.{run, step, start, finished, ended, parsed, wants, has, fresh, got, leaf, atom_of, atom_layer, term_next, form_done}
+use Rattle.syn_expr.proofs.FormLevels.{height-True, height-False, height-Atom, height-Equal, height-Not, height-And, height-Or, height-Implies, height-BothWays, height-Quantified, highest_last, tall, bounded, bounded-low, no_times, no_times_low, conj_with, disj_with, imp_onto, form_with, bound_onto, Held, conj_of, disj_of, imp_of, form_of, frame_of, form_done-is}
+use Rattle.syn_expr.proofs.FormSteps.{Place, held_by, place, place_frame, Ghost, wanting, having, seen, leaf-is, got-is, and_place, or_place, arrow_place, both_place, or_on, arrow_on, both_on, or_on-is, arrow_on-is, and-is, or-is, arrow-is, both-is, close-is}
+>>>>>>> e6f65b06e46fb5309866db1f5b6491b46ad2a203
 
 -- a chain without its last member, and that member
 abbrev pub earlier_conj : ConjText → Option ConjText
@@ -251,15 +258,17 @@ after w = seen (having (held_form [] w) [] (end_form w))
 pub prefix : (w : FormText) (rest : List Item) → height_of (syntax_of_form w) ≤ 1264 → run (items_of_form w ++ rest) start ≡ run rest (after w)
 prefix w rest low = reads_form w rest [] [] low
 
--- and there it has the formula
-pub after-ended : (w : FormText) → height_of (syntax_of_form w) ≤ 1264 → ended (after w) ≡ Some (syntax_of_form w)
-after-ended w low =
+-- and there it has the formula, with its height
+pub after-finished : (w : FormText) → height_of (syntax_of_form w) ≤ 1264 → finished (after w) ≡ Some (tall (syntax_of_form w))
+after-finished w low =
     let h = held_form [] w in
     let whole : bounded (syntax_of_form (form_of h (end_form w))) ≡ Some (tall (syntax_of_form w)) = ap (λ (z : FormText). bounded (syntax_of_form z)) (form_of-whole [] w) ∙ bounded-low (syntax_of_form w) low in
-    ap (option_map (λ (v : Tall). v.form)) (form_done-is h (end_form w) (low_end_form w low) 0 ∙ whole)
+    form_done-is h (end_form w) (low_end_form w low) 0 ∙ whole
+
+-- the items of the formula lead there
+pub run-form : (w : FormText) → height_of (syntax_of_form w) ≤ 1264 → run (items_of_form w) start ≡ Some (after w)
+run-form w low = ap (λ (z : List Item). run z start) (sym (append-nil (items_of_form w))) ∙ prefix w [] low
 
 -- each reading that is low enough is read as its syntax tree
 pub complete : (w : FormText) → height_of (syntax_of_form w) ≤ 1264 → parsed (items_of_form w) ≡ Some (syntax_of_form w)
-complete w low =
-    let e : run (items_of_form w) start ≡ Some (after w) = ap (λ (z : List Item). run z start) (sym (append-nil (items_of_form w))) ∙ prefix w [] low in
-    ap (option_and_then ended) e ∙ after-ended w low
+complete w low = ap (option_and_then ended) (run-form w low) ∙ ap (option_map (λ (v : Tall). v.form)) (after-finished w low)

@@ -20,8 +20,13 @@ use Rattle.syn_expr.specs.declared.form_frames.Bound.{Bound}
 use Rattle.syn_expr.specs.declared.form_reader.FormReader.{FormReader}
 use Rattle.syn_expr.specs.Items.{items_of_unary, items_of_conj, items_of_disj, items_of_imp, items_of_form}
 use Rattle.syn_expr.specs.Heights.{height_of, Low}
+<<<<<<< HEAD
 use Rattle.syn_expr.specs.FormMachine.{run, step, start, ended, parsed, has, got, leaf, atom_of, atom_layer, term_next, quantifier_next, mark_first, mark_after, both_next}
 use Rattle.syn_expr.proofs.FormLevels.{height-True, height-False, height-Atom, height-Equal, tall, bounded_some, bounded_then, no_times, conj_parts, disj_parts, conj_with, disj_with, tall_disj, tall_imp, imp_onto, form_with, bound_onto, Held, conj_of, disj_of, imp_of, form_of, frame_of, form_done-is}
+=======
+use Rattle.syn_expr.specs.FormMachine.{run, step, start, finished, ended, parsed, has, got, leaf, atom_of, atom_layer, term_next, quantifier_next, mark_first, mark_after, both_next}
+use Rattle.syn_expr.proofs.FormLevels.{and_then-some, height-True, height-False, height-Atom, height-Equal, tall, bounded, bounded_some, bounded_then, no_times, conj_parts, disj_parts, conj_with, disj_with, tall_disj, tall_imp, imp_onto, form_with, bound_onto, Held, conj_of, disj_of, imp_of, form_of, frame_of, form_done-is}
+>>>>>>> e6f65b06e46fb5309866db1f5b6491b46ad2a203
 use Rattle.syn_expr.proofs.FormSteps.{Place, held_by, place, place_frame, Ghost, wanting, having, seen, leaf-is, got-is, and_place, or_place, arrow_place, both_place, or_on, arrow_on, both_on, or_on-is, arrow_on-is, and-is, or-is, arrow-is, both-is, close-is}
 
 abbrev fixed : Mark → Item
@@ -232,7 +237,7 @@ after_sound h out u mark.BothWays r l e = both_sound h out u r h.side refl l e
 after_sound h out u mark.Close r l e = close_sound h out u r l e
 after_sound h out u _ r l e = absurd (cc)
 
-step_sound : (g : Ghost) (i : Item) (r : FormReader) → Fine g → step (seen g) i ≡ Some r → After g i r
+pub step_sound : (g : Ghost) (i : Item) (r : FormReader) → Fine g → step (seen g) i ≡ Some r → After g i r
 step_sound (wanting first p out) (item.Term t) r f e = term_sound first p out t r e
 step_sound (wanting first p out) (item.Equal s t) r f e = leaf_sound first p out (equality s t) (item.Equal s t) r refl (height-Equal s t) e
 step_sound (wanting first p out) (item.Quantifier q binders) r f e = quantifier_sound first p out q binders r f e
@@ -253,6 +258,31 @@ run_sound (i ∷ items) g r f e =
     let n = step_sound g i x f one in
     let m = run_sound items n.next r n.fine (ap (run items) n.is ∙ more) in
     record { last = m.last; is = m.is; told = m.told ∙ (ap (λ (z : List Item). z ++ items) n.told ∙ append_assoc (text g) (i ∷ []) items); fine = m.fine })
+
+-- nothing was read
+abbrev pub nothing : Ghost
+nothing = wanting true (place 0 (held_by [] None None [] None)) []
+
+pub nothing-text : text nothing ≡ []
+nothing-text = refl
+
+pub nothing-fine : Fine nothing
+nothing-fine = (refl, refl)
+
+-- the items are a reading, and t is its syntax tree with its height
+pub record Finished (items : List Item) (t : Tall) : Type 0 where
+  pub read : FormText
+  pub told : items ≡ items_of_form read
+  pub is : tall (syntax_of_form read) ≡ t
+
+pub finished_sound : (g : Ghost) (t : Tall) → Fine g → finished (seen g) ≡ Some t → Finished (text g) t
+finished_sound (wanting first p out) t l e = absurd (cc)
+finished_sound (having h (p ∷ out) u) t l e = absurd (cc)
+finished_sound (having h [] u) t l e =
+    let w = form_of h u in
+    let b = bounded_then (λ (v : Tall). Some v) (syntax_of_form w) t (and_then-some (bounded (syntax_of_form w)) ∙ (sym (form_done-is h u l 0) ∙ e)) in
+    let same : Some (tall (syntax_of_form w)) ≡ Some t = b.1 in
+    record { read = w; told = sym (form_of-text h u); is = cc }
 
 -- the items are a reading, and f is its syntax tree
 abbrev pub Reads : List Item → FormSyntax → Type 0

@@ -35,3 +35,6 @@ pub mod TokenTexts
 pub mod TokenLists
 mod DigitRuns
 pub mod LexemeLaws
+mod OutComplete
+mod OutSound
+mod OutExact

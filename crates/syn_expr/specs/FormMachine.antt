@@ -194,13 +194,17 @@ run (i ∷ is) r = option_and_then (run is) (step r i)
 abbrev pub start : FormReader
 start = wants true fresh []
 
-abbrev pub closed : Option Tall → Frame → List Frame → Option FormSyntax
-closed (Some u) f [] = option_map (λ v. v.form) (form_done f u)
-closed _ f out = None
+abbrev pub finished_at : Option Tall → Frame → List Frame → Option Tall
+finished_at (Some u) f [] = form_done f u
+finished_at _ f out = None
 
--- the formula where all brackets are closed and no operand is missing
+-- the formula with its height, where all brackets are closed and no operand is missing
+abbrev pub finished : FormReader → Option Tall
+finished r = finished_at r.last r.frame r.outer
+
+-- the same without its height
 abbrev pub ended : FormReader → Option FormSyntax
-ended r = closed r.last r.frame r.outer
+ended r = option_map (λ v. v.form) (finished r)
 
 -- the formula that the items are
 abbrev pub parsed : List Item → Option FormSyntax

@@ -3,6 +3,8 @@ use Rattle.std.specs.Prelude.{ℕ, ◌+◌, ◌≤◌, max}
 use Rattle.syn_term.specs.Terms.{greatest}
 use Rattle.syn_form.specs.declared.syntax.FormSyntax.{FormSyntax, fold-FormSyntax}
 use Rattle.syn_form.specs.declared.syntax.FormSyntax.TheOpen.{FormSyntax-F}
+use Rattle.syn_form.specs.declared.syntax.OutSyntax.{OutSyntax, fold-OutSyntax}
+use Rattle.syn_form.specs.declared.syntax.OutSyntax.TheOpen.{OutSyntax-F}
 
 abbrev pub height_step : FormSyntax-F ℕ → ℕ
 height_step (FormSyntax-F.Not a) = 1 + a
@@ -16,6 +18,14 @@ height_step _ = 1
 -- the height of a syntax tree: each connective and quantifier is one more than its highest part, all else is 1
 abbrev pub height_of : FormSyntax → ℕ
 height_of = fold-FormSyntax ℕ height_step
+
+abbrev pub out_height_step : OutSyntax-F ℕ → ℕ
+out_height_step (OutSyntax-F.Give t) = 1
+out_height_step (OutSyntax-F.If f o p) = 1 + max (height_of f) (max o p)
+
+-- the height of an output's syntax tree: a term is 1, and a choice is one more than the highest of its test and its arms
+abbrev pub out_height : OutSyntax → ℕ
+out_height = fold-OutSyntax ℕ out_height_step
 
 -- the greatest height of a tree that is read
 abbrev pub max_height : ℕ

@@ -11,3 +11,4 @@ pub mod Sorted
 pub mod Proper
 pub mod Belonging
 pub mod Lexemes
+pub mod OutMachine

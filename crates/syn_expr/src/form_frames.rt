@@ -9,8 +9,8 @@ use std::alloc::Global;
 use syn_form::{BinderSyntax, FormSyntax, Quantifier};
 use syn_term::NoMemory;
 
-/// The greatest height of a formula that is read.
-const MAX_HEIGHT: u32 = 1_264;
+/// The greatest height of a formula or an output that is read.
+pub(crate) const MAX_HEIGHT: u32 = 1_264;
 
 /// A formula with its height.
 #[derive(Drop)]

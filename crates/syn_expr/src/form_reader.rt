@@ -321,9 +321,10 @@ pub(crate) fn step(alloc: Global, r: FormReader, item: Item) -> Result<Option<Fo
     }
 }
 
-/// The formula that was read; None where a bracket is open or an operand is missing.
-pub(crate) fn ended(alloc: Global, r: FormReader) -> Result<Option<FormSyntax>, NoMemory>
-    ensures { IfOk result (λ o. o ≡ machine.ended r) }
+/// The formula that was read, with its height; None where a bracket is open or an operand is
+/// missing.
+pub(crate) fn finished(alloc: Global, r: FormReader) -> Result<Option<Tall>, NoMemory>
+    ensures { IfOk result (λ o. o ≡ machine.finished r) }
 {
     let FormReader {
         frame,
@@ -338,7 +339,14 @@ pub(crate) fn ended(alloc: Global, r: FormReader) -> Result<Option<FormSyntax>, 
     if outer.pop().is_some() {
         return Ok(None);
     }
-    match form_done(alloc, frame, u)? {
+    form_done(alloc, frame, u)
+}
+
+/// The same without its height.
+fn ended(alloc: Global, r: FormReader) -> Result<Option<FormSyntax>, NoMemory>
+    ensures { IfOk result (λ o. o ≡ machine.ended r) }
+{
+    match finished(alloc, r)? {
         None => Ok(None),
         Some(v) => Ok(Some(v.form)),
     }

@@ -19,6 +19,9 @@ mod lookups;
 mod lexemes;
 mod marks;
 mod names;
+mod out_reader;
+#[cfg(test)]
+mod out_samples;
 mod print_forms;
 mod print_outs;
 mod print_qforms;
