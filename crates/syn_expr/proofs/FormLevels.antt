@@ -130,17 +130,6 @@ built-at f n e (high l) =
 built-is : (f : FormSyntax) (n : ℕ) → height_of f ≡ 1 + n → built f n ≡ bounded f
 built-is f n e = built-at f n e (judged f)
 
-<<<<<<< HEAD
-=======
-and_then-and_then : {A B C : Type 0} (g : B → Option C) (f : A → Option B) (o : Option A) → option_and_then g (option_and_then f o) ≡ option_and_then (λ x. option_and_then g (f x)) o
-and_then-and_then g f None = refl
-and_then-and_then g f (Some x) = refl
-
-pub and_then-some : {A : Type 0} (o : Option A) → option_and_then (λ (x : A). Some x) o ≡ o
-and_then-some None = refl
-and_then-some (Some x) = refl
-
->>>>>>> e6f65b06e46fb5309866db1f5b6491b46ad2a203
 -- `not`s round a unary
 abbrev pub no_times : ℕ → UnaryText → UnaryText
 no_times zero u = u

@@ -20,13 +20,8 @@ use Rattle.syn_expr.specs.declared.form_frames.Bound.{Bound}
 use Rattle.syn_expr.specs.declared.form_reader.FormReader.{FormReader}
 use Rattle.syn_expr.specs.Items.{items_of_unary, items_of_conj, items_of_disj, items_of_imp, items_of_form}
 use Rattle.syn_expr.specs.Heights.{height_of, Low}
-<<<<<<< HEAD
-use Rattle.syn_expr.specs.FormMachine.{run, step, start, ended, parsed, has, got, leaf, atom_of, atom_layer, term_next, quantifier_next, mark_first, mark_after, both_next}
-use Rattle.syn_expr.proofs.FormLevels.{height-True, height-False, height-Atom, height-Equal, tall, bounded_some, bounded_then, no_times, conj_parts, disj_parts, conj_with, disj_with, tall_disj, tall_imp, imp_onto, form_with, bound_onto, Held, conj_of, disj_of, imp_of, form_of, frame_of, form_done-is}
-=======
 use Rattle.syn_expr.specs.FormMachine.{run, step, start, finished, ended, parsed, has, got, leaf, atom_of, atom_layer, term_next, quantifier_next, mark_first, mark_after, both_next}
-use Rattle.syn_expr.proofs.FormLevels.{and_then-some, height-True, height-False, height-Atom, height-Equal, tall, bounded, bounded_some, bounded_then, no_times, conj_parts, disj_parts, conj_with, disj_with, tall_disj, tall_imp, imp_onto, form_with, bound_onto, Held, conj_of, disj_of, imp_of, form_of, frame_of, form_done-is}
->>>>>>> e6f65b06e46fb5309866db1f5b6491b46ad2a203
+use Rattle.syn_expr.proofs.FormLevels.{height-True, height-False, height-Atom, height-Equal, tall, bounded, bounded_some, bounded_then, no_times, conj_parts, disj_parts, conj_with, disj_with, tall_disj, tall_imp, imp_onto, form_with, bound_onto, Held, conj_of, disj_of, imp_of, form_of, frame_of, form_done-is}
 use Rattle.syn_expr.proofs.FormSteps.{Place, held_by, place, place_frame, Ghost, wanting, having, seen, leaf-is, got-is, and_place, or_place, arrow_place, both_place, or_on, arrow_on, both_on, or_on-is, arrow_on-is, and-is, or-is, arrow-is, both-is, close-is}
 
 abbrev fixed : Mark → Item

@@ -68,14 +68,8 @@ fn is_written(number: u32, text: &str) -> bool
     buffer.format(number) == text
 }
 
-<<<<<<< HEAD
 /// The number that the text is in decimal, with no sign and no zero before others. None: it is no such
 /// number, or one from 2^32 on.
-=======
-// Reading takes a plus sign and zeros before a number, so what is read is printed again and compared.
-/// The number below 2 to the 32nd whose decimal digits the text is, with no sign and no zero before
-/// others; None where there is none.
->>>>>>> 04bc521a94c43ffec8e9b099f40da56e3c6b7853
 pub fn decimal_number(text: &str) -> Option<u32>
     ensures { MatchOption result ((n : ℕ) → n < 2 ^ 32 → ¬ (text.now ≡ decimal n)) (λ n. (n < 2 ^ 32) × (text.now ≡ decimal n)) }
 {
