@@ -1,5 +1,5 @@
 -- A text is written by one list of lexemes at most: what a word spells is told by the word.
-use Rattle.std.proofs.Common.{◌≡◌, ℕ, zero, suc, ◌<◌, ◌≤◌, ◌^◌, List, [], ◌∷◌, ◌++◌, inl, inr, Option, None, Some, Bool, false, cond, nat_eq, All, decimal, codes, length, map, drop, refl, sym, ◌∙◌, ap, subst, arith, append-nil}
+use Rattle.std.proofs.Common.{◌≡◌, ℕ, ◌<◌, ◌≤◌, ◌^◌, List, [], ◌∷◌, ◌++◌, inl, inr, Option, None, Some, Bool, false, cond, nat_eq, All, decimal, codes, length, map, refl, sym, ◌∙◌, ap, subst, arith}
 use Rattle.std.specs.Char.{digit_value}
 use Rattle.std.specs.Int.{IsInRange}
 use Rattle.std.specs.Option.{option_map_or}
@@ -11,7 +11,7 @@ use Rattle.std.proofs.lemmas.Str.Parse.{digit_from_value}
 use Rattle.syn_term.specs.declared.tokens.TokenKind.{TokenKind}
 use Rattle.syn_term.specs.declared.tokens.TokenKind.TheVariants as kind
 use Rattle.syn_term.specs.Names.{IsNumber}
-use Rattle.syn_term.specs.Tokens.{Word, Spelled, IsDigits, IsWrittenSort, IsRowVariable, IsToken}
+use Rattle.syn_term.specs.Tokens.{Word, IsWrittenSort, IsRowVariable, IsToken}
 use Rattle.syn_term.proofs.OneSpelling.{one_spelling}
 use Rattle.syn_form.specs.declared.syntax.Mark.{Mark}
 use Rattle.syn_form.specs.declared.syntax.Mark.TheVariants as mark

@@ -3,7 +3,7 @@ use Rattle.std.proofs.Common.{◌≡◌, ℕ, zero, suc, ◌+◌, ◌-◌, ◌<�
 use Rattle.std.proofs.lemmas.List.{drop-drop, length-drop}
 use Rattle.std.proofs.lemmas.List.Elements.{All-nil, All-cons}
 use Rattle.syn_term.specs.declared.tokens.TokenKind.{TokenKind}
-use Rattle.syn_term.specs.Tokens.{gap, over, bad, token, starts, Word, IsToken, Spelled, none_left, past_gap, word_then}
+use Rattle.syn_term.specs.Tokens.{gap, bad, token, starts, Word, IsToken, Spelled, none_left, past_gap, word_then}
 use Rattle.syn_term.proofs.BeginsCases.{gap_token, over_token, bad_token, over_gap, bad_gap, over_bad, token_length}
 use Rattle.syn_term.proofs.TokenLaws.{is_token}
 use Rattle.syn_lex.specs.declared.token.Token.{Token}

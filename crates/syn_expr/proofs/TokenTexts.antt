@@ -1,5 +1,5 @@
 -- What is a lexeme, from what is a token: its digits are a number, its bytes are text, and a row variable is cut at its colon.
-use Rattle.std.proofs.Common.{◌≡◌, ◌≢◌, ℕ, zero, suc, ◌+◌, ◌<◌, ◌≤◌, ◌^◌, ◌++◌, List, [], ◌∷◌, inl, inr, Option, None, Some, Bor, Contains, MatchOption, IfOk, codes, decimal, length, get_or, refl, sym, ◌∙◌, ap, subst, append-nil, arith}
+use Rattle.std.proofs.Common.{◌≡◌, ◌≢◌, ℕ, zero, suc, ◌+◌, ◌<◌, ◌^◌, ◌++◌, List, [], ◌∷◌, inl, inr, Option, None, Some, Bor, Contains, MatchOption, codes, decimal, length, get_or, refl, sym, ◌∙◌, ap, subst, append-nil, arith}
 use Rattle.std.specs.Str.{IsUtf8, IsAscii}
 use Rattle.std.specs.Str.Parse.{AllDigits}
 use Rattle.std.specs.Int.{IsInRange}
@@ -10,14 +10,13 @@ use Rattle.std.proofs.lemmas.Str.Parse.{digit_at}
 use Rattle.std.proofs.lemmas.Str.Pattern.{IsSplitOnceResult, split_after, split_parts}
 use Rattle.syn_term.specs.declared.tokens.TokenKind.{TokenKind}
 use Rattle.syn_term.specs.declared.tokens.TokenKind.TheVariants as kind
-use Rattle.syn_term.specs.Names.{reserved, IsName, IsNumber, IsTag, IsSkolemName}
+use Rattle.syn_term.specs.Names.{reserved, IsNumber, IsTag, IsSkolemName}
 use Rattle.syn_term.specs.Tokens.{Word, IsDigits, IsWrittenSort, IsRowVariable, IsToken}
 use Rattle.syn_term.proofs.ReservedWords.{reserved_word}
-use Rattle.syn_form.specs.declared.syntax.Mark.{Mark}
 use Rattle.syn_form.specs.declared.syntax.Lexeme.{Lexeme}
 use Rattle.syn_form.specs.declared.syntax.Lexeme.TheVariants as lexeme
-use Rattle.syn_form.specs.Grammar.{mark_word, name_word, spelling}
-use Rattle.syn_expr.specs.Lexemes.{IsCanonical, NoLexeme, NoMark, NoNumber, Spells, row_word, word}
+use Rattle.syn_form.specs.Grammar.{name_word}
+use Rattle.syn_expr.specs.Lexemes.{NoLexeme, NoMark, NoNumber, Spells, row_word, word}
 
 -- numbers
 

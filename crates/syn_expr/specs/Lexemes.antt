@@ -1,5 +1,5 @@
 -- Which lexemes a text is made of.
-use Rattle.std.specs.Prelude.{◌≡◌, ℕ, ◌+◌, ◌-◌, ◌<◌, ◌≤◌, ◌^◌, List, ◌++◌, All, codes, decimal, length, map}
+use Rattle.std.specs.Prelude.{◌≡◌, ℕ, ◌<◌, ◌≤◌, ◌^◌, List, ◌++◌, All, codes, decimal, length, map}
 use Rattle.syn_term.specs.declared.tokens.TokenKind.{TokenKind}
 use Rattle.syn_term.specs.declared.tokens.TokenKind.TheVariants as kind
 use Rattle.syn_term.specs.Tokens.{Word, Spelled}
@@ -30,11 +30,11 @@ row_word digits sort = word kind.RowVar (codes "?" ++ digits ++ sort)
 abbrev pub NoMark : Word → Type 0
 NoMark w = (m : Mark) → mark_word m ≡ w → ⊥
 
--- the lexeme is spelled so
+-- the lexeme is canonical and spelled so
 abbrev pub Spells : Word → Lexeme → Type 0
 Spells w l = IsCanonical l × (spelling l ≡ w)
 
--- no lexeme is spelled so
+-- no canonical lexeme is spelled so
 abbrev pub NoLexeme : Word → Type 0
 NoLexeme w = (l : Lexeme) → IsCanonical l → spelling l ≡ w → ⊥
 
@@ -42,7 +42,7 @@ NoLexeme w = (l : Lexeme) → IsCanonical l → spelling l ≡ w → ⊥
 abbrev pub NoNumber : List ℕ → Type 0
 NoNumber digits = (n : ℕ) → n < 2 ^ 32 → digits ≡ decimal n → ⊥
 
--- the lexemes are spelled by these words
+-- the lexemes are canonical and spelled by these words
 abbrev pub Spell : List Word → List Lexeme → Type 0
 Spell ws ls = All IsCanonical ls × (map spelling ls ≡ ws)
 

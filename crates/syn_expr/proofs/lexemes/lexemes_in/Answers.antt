@@ -1,8 +1,7 @@
-use Rattle.std.proofs.Common.{◌+◌, List, take, get_or, sym, subst, arith}
+use Rattle.std.proofs.Common.{◌+◌, take, get_or, sym, subst, arith}
 use Rattle.syn_term.specs.declared.tokens.TokenKind.TheVariants as kind
 use Rattle.syn_lex.specs.declared.token.Token.{Token}
 use Rattle.syn_lex.specs.Lexing.{word_of, words_of}
-use Rattle.syn_form.specs.declared.syntax.Lexeme.{Lexeme}
 use Rattle.syn_expr.specs.Lexemes.{Spell}
 use Rattle.syn_expr.proofs.TokenLists.{answer_none, answer_some, spell_more, spell_none}
 use Rattle.syn_expr.proofs.lexemes.lexemes_in.Goals as goal

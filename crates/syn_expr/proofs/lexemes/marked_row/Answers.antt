@@ -1,4 +1,4 @@
-use Rattle.std.proofs.Common.{[], ◌∷◌, Some, None, sym}
+use Rattle.std.proofs.Common.{[], ◌∷◌}
 use Rattle.std.proofs.lemmas.Result.{IfOk-weaker}
 use Rattle.syn_term.specs.declared.tokens.TokenKind.TheVariants as kind
 use Rattle.syn_expr.specs.Lexemes.{NoNumber, row_word, word}
