@@ -1,5 +1,5 @@
 -- The reader of outputs reads each reading of the grammar that is low enough.
-use Rattle.std.proofs.Common.{◌≡◌, ℕ, ◌+◌, ◌≤◌, max, nat_lt, Bool, true, false, List, [], ◌∷◌, ◌++◌, Option, None, Some, option_and_then, option_map, refl, sym, ◌∙◌, ap, arith, append_assoc, append-nil}
+use Rattle.std.proofs.Common.{◌≡◌, ℕ, ◌+◌, ◌≤◌, max, nat_lt, true, List, [], ◌∷◌, ◌++◌, Option, None, Some, option_and_then, option_map, refl, sym, ◌∙◌, ap, arith, append_assoc, append-nil}
 use Rattle.std.proofs.lemmas.Option.{option_and_then_some}
 use Rattle.std.proofs.lemmas.Bool.Decides.{nat_tests}
 use denote.Hole.Carrier.{roll}
@@ -11,7 +11,7 @@ use Rattle.syn_form.specs.declared.syntax.OutSyntax.{OutSyntax, roll-OutSyntax, 
 use Rattle.syn_form.specs.declared.syntax.OutSyntax.TheOpen.{OutSyntax-F}
 use Rattle.syn_form.specs.declared.syntax.OutSyntax.TheVariants as out
 use Rattle.syn_form.specs.declared.syntax.OutSyntax.TheViews as out_view
-use Rattle.syn_form.specs.Grammar.{FormText, OutText, give, choice, syntax_of_form, syntax_of_out}
+use Rattle.syn_form.specs.Grammar.{OutText, give, choice, syntax_of_form, syntax_of_out}
 use Rattle.syn_expr.specs.declared.items.Item.{Item}
 use Rattle.syn_expr.specs.declared.items.Item.TheVariants as item
 use Rattle.syn_expr.specs.declared.form_frames.Tall.{Tall}
@@ -19,11 +19,10 @@ use Rattle.syn_expr.specs.declared.form_reader.FormReader.{FormReader}
 use Rattle.syn_expr.specs.declared.out_reader.TallOut.{TallOut}
 use Rattle.syn_expr.specs.declared.out_reader.Arm.{Arm}
 use Rattle.syn_expr.specs.declared.out_reader.Arm.TheVariants as arm
-use Rattle.syn_expr.specs.declared.out_reader.OutReader.{OutReader}
 use Rattle.syn_expr.specs.Items.{items_of_form, items_of_out}
 use Rattle.syn_expr.specs.Heights.{height_of, out_height, out_height_step, max_height}
 use Rattle.syn_expr.specs.FormMachine as tests
-use Rattle.syn_expr.specs.OutMachine.{built, choice_of, given, wanted, testing, came, test_next, step, run, start, ended, parsed}
+use Rattle.syn_expr.specs.OutMachine.{built, choice_of, wanted, testing, came, step, run, start, ended, parsed}
 use Rattle.syn_expr.proofs.FormLevels.{tall, cond_at}
 use Rattle.syn_expr.proofs.FormComplete.{after, after-finished, run-form}
 

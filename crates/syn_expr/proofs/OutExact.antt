@@ -1,5 +1,5 @@
 -- The reader of outputs answers exactly what the grammar says of trees that are low enough.
-use Rattle.std.proofs.Common.{◌≡◌, ℕ, ◌≤◌, List, Option, None, Some, MatchOption, sym, ◌∙◌, ap}
+use Rattle.std.proofs.Common.{◌≡◌, ◌≤◌, List, Option, None, Some, MatchOption, sym, ◌∙◌, ap}
 use Rattle.syn_form.specs.declared.syntax.OutSyntax.{OutSyntax}
 use Rattle.syn_form.specs.Grammar.{OutText, syntax_of_out}
 use Rattle.syn_expr.specs.declared.items.Item.{Item}

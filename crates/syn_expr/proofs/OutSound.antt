@@ -1,5 +1,5 @@
 -- Whatever the reader of outputs reads is a reading of the grammar: the items read so far are the items of what it holds.
-use Rattle.std.proofs.Common.{◌≡◌, ℕ, ◌+◌, ◌≤◌, ◌<◌, max, nat_lt, Bool, true, false, List, [], ◌∷◌, ◌++◌, map, Option, None, Some, option_and_then, option_map, refl, sym, ◌∙◌, ap, subst, arith, append_assoc, append-nil}
+use Rattle.std.proofs.Common.{◌≡◌, ℕ, ◌+◌, ◌≤◌, ◌<◌, max, nat_lt, Bool, true, false, List, [], ◌∷◌, ◌++◌, map, Option, None, Some, option_map, refl, sym, ◌∙◌, ap, subst, arith, append_assoc, append-nil}
 use Rattle.std.proofs.lemmas.Option.{option_and_then_some}
 use Rattle.std.proofs.lemmas.Bool.Decides.{nat_tests}
 use Rattle.syn_form.specs.declared.syntax.Mark.{Mark}
@@ -13,7 +13,6 @@ use Rattle.syn_form.specs.Grammar.{FormText, OutText, give, choice, syntax_of_fo
 use Rattle.syn_expr.specs.declared.items.Item.{Item}
 use Rattle.syn_expr.specs.declared.items.Item.TheVariants as item
 use Rattle.syn_expr.specs.declared.form_frames.Tall.{Tall}
-use Rattle.syn_expr.specs.declared.form_reader.FormReader.{FormReader}
 use Rattle.syn_expr.specs.declared.out_reader.TallOut.{TallOut}
 use Rattle.syn_expr.specs.declared.out_reader.Arm.{Arm}
 use Rattle.syn_expr.specs.declared.out_reader.Arm.TheVariants as arm
