@@ -9,3 +9,5 @@ mod FormComplete
 mod FormSound
 mod FormExact
 mod FormRuns
+mod TermShapes
+mod ItemTexts

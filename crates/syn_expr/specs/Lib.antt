@@ -5,3 +5,4 @@ pub mod Heights
 pub mod FormMachine
 pub mod BindingMachine
 pub mod ItemMachine
+pub mod Written
