@@ -11,3 +11,6 @@ mod FormExact
 mod FormRuns
 mod TermShapes
 mod ItemTexts
+mod Commas
+mod PieceSound
+mod ItemSound
