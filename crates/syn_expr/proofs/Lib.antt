@@ -14,3 +14,7 @@ mod ItemTexts
 mod Commas
 mod PieceSound
 mod ItemSound
+mod TermRuns
+mod PieceRuns
+mod ItemRuns
+mod ItemComplete
