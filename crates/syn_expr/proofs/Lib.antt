@@ -18,3 +18,4 @@ mod TermRuns
 mod PieceRuns
 mod ItemRuns
 mod ItemComplete
+mod ItemExact
