@@ -38,3 +38,13 @@ pub mod LexemeLaws
 mod OutComplete
 mod OutSound
 mod OutExact
+mod TermShapes
+mod ItemTexts
+mod Commas
+mod PieceSound
+mod ItemSound
+mod TermRuns
+mod PieceRuns
+mod ItemRuns
+mod ItemComplete
+mod ItemExact

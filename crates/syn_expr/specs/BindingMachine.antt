@@ -74,7 +74,7 @@ at done q binders stage.Next l = stop_next done q binders l
 abbrev pub inside : List Piece → Binding → Lexeme → Option PieceReader
 inside done b l = at done b.quantifier b.binders b.stage l
 
-abbrev step_at : Option Binding → List Piece → Lexeme → Option PieceReader
+abbrev pub step_at : Option Binding → List Piece → Lexeme → Option PieceReader
 step_at None done l = Some (outside done l)
 step_at (Some b) done l = inside done b l
 
@@ -86,7 +86,7 @@ abbrev pub run : List Lexeme → PieceReader → Option PieceReader
 run [] r = Some r
 run (l ∷ ls) r = option_and_then (run ls) (step r l)
 
-abbrev ended_at : Option Binding → List Piece → Option (List Piece)
+abbrev pub ended_at : Option Binding → List Piece → Option (List Piece)
 ended_at None done = Some done
 ended_at (Some b) done = None
 

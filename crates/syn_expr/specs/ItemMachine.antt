@@ -7,6 +7,8 @@ use Rattle.syn_form.specs.declared.syntax.Lexeme.{Lexeme}
 use Rattle.syn_form.specs.declared.syntax.Lexeme.TheVariants as lexeme
 use Rattle.syn_form.specs.declared.syntax.HeadName.{HeadName}
 use Rattle.syn_form.specs.declared.syntax.HeadName.TheVariants as head
+use Rattle.syn_form.specs.declared.syntax.Quantifier.{Quantifier}
+use Rattle.syn_form.specs.declared.syntax.BinderSyntax.{BinderSyntax}
 use Rattle.syn_form.specs.declared.syntax.TermSyntax.{TermSyntax, out-TermSyntax}
 use Rattle.syn_form.specs.declared.syntax.TermSyntax.TheOpen.{TermSyntax-F}
 use Rattle.syn_form.specs.declared.syntax.TermSyntax.TheVariants as term
@@ -24,7 +26,7 @@ reads items left calls n last = record { items = items; left = left; calls = cal
 abbrev pub start : ItemReader
 start = reads [] None [] 0 None
 
-abbrev placed_at : Option TermSyntax → ItemReader → TermSyntax → Option ItemReader
+abbrev pub placed_at : Option TermSyntax → ItemReader → TermSyntax → Option ItemReader
 placed_at None r t = Some (reads r.items r.left r.calls r.count (Some t))
 placed_at (Some u) r t = None
 
@@ -43,7 +45,7 @@ flushed items (Some s) None = None
 abbrev pub with_item : ItemReader → Item → Option ItemReader
 with_item r i = option_map (λ items. reads (items ++ i ∷ []) None r.calls r.count None) (flushed r.items r.left r.last)
 
-abbrev head_layer : TermSyntax-F TermSyntax → Option HeadName
+abbrev pub head_layer : TermSyntax-F TermSyntax → Option HeadName
 head_layer (TermSyntax-F.Alone h) = Some h
 head_layer _ = None
 
@@ -58,14 +60,14 @@ call_of h = record { head = h; args = [] }
 abbrev pub opened : List Item → Option TermSyntax → List Call → ℕ → TermSyntax → Option ItemReader
 opened items left calls n t = if nat_lt n 1263 then option_map (λ h. reads items left (call_of h ∷ calls) (n + 1) None) (head_of t) else None
 
-abbrev open_at : Option TermSyntax → ItemReader → Option ItemReader
+abbrev pub open_at : Option TermSyntax → ItemReader → Option ItemReader
 open_at (Some t) r = opened r.items r.left r.calls r.count t
 open_at None r = with_item r (item.Fixed mark.Open)
 
 abbrev pub open_outside : ItemReader → Option ItemReader
 open_outside r = open_at r.last r
 
-abbrev equals_at : Option TermSyntax → Option TermSyntax → ItemReader → Option ItemReader
+abbrev pub equals_at : Option TermSyntax → Option TermSyntax → ItemReader → Option ItemReader
 equals_at None (Some s) r = Some (reads r.items (Some s) r.calls r.count None)
 equals_at _ _ r = None
 
@@ -91,11 +93,11 @@ inside items left c calls n t mark.Comma = Some (reads items left (with_arg c t 
 inside items left c calls n t mark.Close = Some (reads items left calls (n - 1) (Some (closed_call c t)))
 inside items left c calls n t _ = None
 
-abbrev inside_at : Option TermSyntax → ItemReader → Call → List Call → Mark → Option ItemReader
+abbrev pub inside_at : Option TermSyntax → ItemReader → Call → List Call → Mark → Option ItemReader
 inside_at None r c calls m = None
 inside_at (Some t) r c calls m = inside r.items r.left c calls r.count t m
 
-abbrev mark_at : List Call → ItemReader → Mark → Option ItemReader
+abbrev pub mark_at : List Call → ItemReader → Mark → Option ItemReader
 mark_at [] r m = outside r m
 mark_at (c ∷ calls) r m = inside_at r.last r c calls m
 
@@ -109,16 +111,24 @@ word_next r (lexeme.Name x) = placed r (term.Alone (head.Name x))
 word_next r (lexeme.Skolem x) = placed r (term.Alone (head.Skolem x))
 word_next r (lexeme.Fixed m) = mark_next r m
 
+abbrev pub quantifier_at : List Call → ItemReader → Quantifier → List BinderSyntax → Option ItemReader
+quantifier_at [] r q binders = with_item r (item.Quantifier q binders)
+quantifier_at (c ∷ calls) r q binders = None
+
+-- a quantifier, which stands in no call
+abbrev pub quantifier_next : ItemReader → Quantifier → List BinderSyntax → Option ItemReader
+quantifier_next r q binders = quantifier_at r.calls r q binders
+
 -- one piece
 abbrev pub step : ItemReader → Piece → Option ItemReader
 step r (piece.Word l) = word_next r l
-step r (piece.Quantifier q binders) = with_item r (item.Quantifier q binders)
+step r (piece.Quantifier q binders) = quantifier_next r q binders
 
 abbrev pub run : List Piece → ItemReader → Option ItemReader
 run [] r = Some r
 run (p ∷ ps) r = option_and_then (run ps) (step r p)
 
-abbrev ended_at : List Call → ItemReader → Option (List Item)
+abbrev pub ended_at : List Call → ItemReader → Option (List Item)
 ended_at [] r = flushed r.items r.left r.last
 ended_at (c ∷ calls) r = None
 

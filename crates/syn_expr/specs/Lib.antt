@@ -12,3 +12,4 @@ pub mod Proper
 pub mod Belonging
 pub mod Lexemes
 pub mod OutMachine
+pub mod Written

@@ -8,7 +8,7 @@ use crate::items::Item;
 use crate::stack::{Stack, stacked};
 use sqlite_items::Items;
 use std::alloc::Global;
-use syn_form::{HeadName, Lexeme, Mark, TermSyntax};
+use syn_form::{BinderSyntax, HeadName, Lexeme, Mark, Quantifier, TermSyntax};
 use syn_term::NoMemory;
 
 /// The greatest number of calls that are open at once, so that no term is higher than 1,264.
@@ -290,13 +290,44 @@ fn word_next(
     }
 }
 
+/// A quantifier comes; inside a call there is none.
+fn quantifier_next(
+    alloc: Global,
+    reader: ItemReader,
+    quantifier: Quantifier,
+    binders: Items<BinderSyntax>,
+) -> Result<Option<ItemReader>, NoMemory>
+    ensures { IfOk result (λ o. o ≡ machine.quantifier_next reader quantifier binders) }
+{
+    let ItemReader {
+        items,
+        left,
+        mut calls,
+        count,
+        last,
+    } = reader;
+    match calls.pop() {
+        None => {
+            let reader = ItemReader {
+                items,
+                left,
+                calls: Stack::new(alloc),
+                count,
+                last,
+            };
+            with_item(reader, Item::Quantifier(quantifier, binders))
+        }
+        Some(_) => Ok(None),
+    }
+}
+
 fn step(alloc: Global, reader: ItemReader, piece: Piece) -> Result<Option<ItemReader>, NoMemory>
     ensures { IfOk result (λ o. o ≡ machine.step reader piece) }
 {
     match piece {
         Piece::Word(lexeme) => word_next(alloc, reader, lexeme),
         Piece::Quantifier(quantifier, binders) => {
-            with_item(reader, Item::Quantifier(quantifier, binders))
+            quantifier_next(alloc, reader, quantifier, binders)
         }
     }
 }
