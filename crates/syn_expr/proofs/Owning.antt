@@ -1,7 +1,7 @@
 -- What is made belongs to the bank.
 use Rattle.std.proofs.Common.{◌≡◌, ℕ, Option, None, Some, IfSome, map, ap, ◌∙◌, List, [], ◌∷◌, ◌++◌, All, sym, subst}
 use Rattle.std.proofs.lemmas.List.Elements.{All-append, All-cons, All-head, All-nil, All-tail, All-weaker}
-use Rattle.std.specs.Option.{option_and_then, option_map}
+use Rattle.std.specs.Option.{option_map}
 use Rattle.syn_term.specs.Bank.{Kept, Belongs, Extends, Extends-refl, Extends-trans, Belongs-extends}
 use Rattle.syn_term.specs.Terms.{TermTree}
 use Rattle.syn_form.specs.declared.trees.Form.TheVariants as form
@@ -11,7 +11,7 @@ use Rattle.syn_form.specs.Lists.{all_there}
 use Rattle.syn_form.specs.Quantified.{unquantified, unquantified_step}
 use Rattle.syn_form.specs.Trees.{FormTree, QFormTree, all_of, form_terms}
 use Rattle.syn_form.proofs.Equations.{form_terms-True, form_terms-False, form_terms-Atom, form_terms-Equal, form_terms-Not, form_terms-And, form_terms-Or, form_terms-Implies}
-use Rattle.syn_expr.proofs.QForms.{QFormCases, by_qform_cases, qfold-True, qfold-False, qfold-Atom, qfold-Equal, qfold-Not, qfold-And, qfold-Or, qfold-Implies, qfold-All, qfold-Exists}
+use Rattle.syn_expr.proofs.QForms.{by_qform_cases, qfold-True, qfold-False, qfold-Atom, qfold-Equal, qfold-Not, qfold-And, qfold-Or, qfold-Implies, qfold-All, qfold-Exists}
 use Rattle.syn_expr.proofs.TermCounts.{step_there, value_there}
 use Rattle.syn_expr.proofs.FormMaking.{both}
 use Rattle.syn_expr.specs.Belonging.{FormBelongs, FormBelongs-extends, FormBelongs-from, OutBelongs-extends, OutBelongs-Give, OutBelongs-If, QFormBelongs-terms, qform_terms, qform_terms_step, QFormBelongs, QFormBelongs-extends, QFormBelongs-True, QFormBelongs-False, QFormBelongs-Atom, QFormBelongs-Equal, QFormBelongs-Not, QFormBelongs-And, QFormBelongs-Or, QFormBelongs-Implies, QFormBelongs-quantifier}
