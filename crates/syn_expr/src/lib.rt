@@ -1,22 +1,22 @@
 //! Expressions as texts: a term, a formula or an output is printed as the one text that stands for
-//! it, by the names of a scope. Nothing here reads a text yet, so nothing says that the text reads
-//! back.
+//! it, by the names of a scope. The passes of a reader stand here too, from the words of a text to its
+//! tree, each tied to its machine or to the grammar; the calls that put them together aren't there yet.
 #![tactic(auto)]
 
 mod binding;
-#[cfg(test)]
-mod examples;
-mod form_frames;
-mod form_reader;
-mod item_reader;
-mod items;
 mod elaborate_form;
 mod elaborate_out;
 mod elaborate_term;
+#[cfg(test)]
+mod examples;
+mod form_frames;
 mod form_parts;
+mod form_reader;
+mod item_reader;
+mod items;
+mod lexemes;
 mod limits;
 mod lookups;
-mod lexemes;
 mod marks;
 mod names;
 mod out_reader;
@@ -27,8 +27,8 @@ mod print_outs;
 mod print_qforms;
 mod print_terms;
 mod scope;
-mod stack;
 mod sorts;
+mod stack;
 mod text;
 mod unquantified;
 mod vars;
