@@ -1,20 +1,48 @@
 //! Expressions as texts: a term, a formula or an output is printed as the one text that stands for
-//! it, by the names of a scope. Nothing here reads a text yet, so nothing says that the text reads
-//! back.
+//! it, by the names of a scope, and a text is read: the tree that stands for it, or a refusal where
+//! none does. Nothing says yet that what was printed reads back.
 #![tactic(auto)]
 
+mod accepting;
+mod binding;
+mod elaborate_form;
+mod elaborate_out;
+mod elaborate_term;
+mod error;
 #[cfg(test)]
 mod examples;
+mod form_frames;
+mod form_parts;
+mod form_reader;
+mod item_reader;
+mod items;
+mod lexemes;
+mod limits;
+mod lookups;
+mod marks;
 mod names;
+mod out_reader;
+#[cfg(test)]
+mod out_samples;
 mod print_forms;
 mod print_outs;
 mod print_qforms;
 mod print_terms;
+mod read;
+#[cfg(test)]
+mod reading_tests;
 mod scope;
+mod sorts;
+mod stack;
+mod syntaxes;
 mod text;
+mod unquantified;
+mod vars;
 
+pub use error::ExprError;
 pub use print_forms::print_form;
 pub use print_outs::print_out;
 pub use print_qforms::print_qform;
 pub use print_terms::print_term;
+pub use read::{read_body, read_form, read_out, read_qform, read_term};
 pub use scope::Scope;

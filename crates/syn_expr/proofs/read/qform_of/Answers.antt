@@ -1,0 +1,20 @@
+use Rattle.std.proofs.Common.{arith, subst}
+use Rattle.syn_form.specs.Quantified.{bare_qform}
+use Rattle.syn_form.specs.Texts.{expression_limit}
+use Rattle.syn_expr.specs.Accepting.{Taken, TakesQForm}
+use Rattle.syn_expr.specs.Scopes.{spoken}
+use Rattle.syn_expr.proofs.Readers.{qform_read, qform_unread, qform_untaken}
+use Rattle.syn_expr.proofs.read.qform_of.Goals as goal
+
+pub returns-in_default-clause-answer : goal.returns-in_default-clause-answer
+returns-in_default-clause-answer c = λ free. qform_unread expression_limit (omega arith) (spoken c.args.scope.now) c.args.text.now free _ c.in_default.is c.in_ok-syntax.ensures
+
+pub returns-in-None-clause-answer : goal.returns-in-None-clause-answer
+returns-in-None-clause-answer c = λ free.
+    qform_untaken expression_limit (omega arith) (spoken c.args.scope.now) c.args.text.now free _ _ c.in-Some.is c.in_ok-syntax.ensures
+    (subst (Taken bare_qform (TakesQForm expression_limit (spoken c.args.scope.now) c.in-Some.syntax)) c.in-None.is c.in_ok-taken_qform.ensures.tree)
+
+pub returns-clause-answer : goal.returns-clause-answer
+returns-clause-answer c = λ free.
+    qform_read expression_limit (omega arith) (spoken c.args.scope.now) c.args.text.now free _ _ c.in-Some.is c.in_ok-syntax.ensures _
+    (subst (Taken bare_qform (TakesQForm expression_limit (spoken c.args.scope.now) c.in-Some.syntax)) c.in-Some-2.is c.in_ok-taken_qform.ensures.tree)

@@ -1,0 +1,195 @@
+// The formula that a syntax tree stands for, made by a bank. A binder's name is in scope of what is
+// read inside: it stands on the stack of the calls.
+ghost use Rattle.std.specs.Prelude.{◌≡◌, All, map, IfOk, IfSome};
+ghost use Rattle.std.specs.Option.{option_map};
+ghost use Rattle.syn_term.specs.Bank.{Extends};
+ghost use Rattle.syn_form.specs.Elaboration as elaboration;
+ghost use Rattle.syn_form.specs.Elaboration.{and_then, in_turn, nested, two_ways};
+ghost use Rattle.syn_form.specs.declared.trees.QForm.TheViews as view;
+ghost use Rattle.syn_expr.specs.Belonging.{QFormBelongs};
+ghost use Rattle.syn_expr.specs.Elaborating.{bare_reading, bare_readings};
+ghost use Rattle.syn_expr.specs.Places.{spoken_at};
+
+use crate::form_parts::{
+    both, conjunction, disjunction, elaborate_atom, elaborate_equality, implies, negated, quantify,
+    steady,
+};
+use crate::lookups::binder_var;
+use crate::names::{Inside, within};
+use sqlite_items::Items;
+use std::alloc::Global;
+use syn_form::{Binder, BinderSyntax, FormSyntax, QForm, Quantifier};
+use syn_term::{Bank, NoMemory, Text};
+
+/// The formula that the syntax tree stands for, and the number of the next binder; None where a name
+/// isn't there or may not be bound, or sorts don't fit. The binders are numbered from `next` on. The
+/// one error is want of memory, or of numbers.
+#[cycle(forms)]
+#[tactic(auto, using(crate::proofs::Owning::owning))]
+pub(crate) fn elaborate_form(
+    alloc: Global,
+    bank: &mut Bank,
+    place: &Inside,
+    next: u32,
+    syntax: &FormSyntax,
+) -> Result<Option<(QForm, u32)>, NoMemory>
+    ensures tree { IfOk result (λ o. option_map bare_reading o ≡ elaboration.elaborate_form syntax.now (spoken_at place.now) next) }
+    ensures extends { Extends bank.old bank.new }
+    ensures belongs { IfOk result (λ o. IfSome o (λ r. QFormBelongs bank.new r.0)) }
+{
+    match syntax {
+        FormSyntax::True => Ok(Some((QForm::True, next))),
+        FormSyntax::False => Ok(Some((QForm::False, next))),
+        FormSyntax::Atom(name, args) => {
+            let read = elaborate_atom(alloc, bank, place, name, args.as_slice())?;
+            Ok(steady(read, next))
+        }
+        FormSyntax::Equal(s, t) => {
+            let read = elaborate_equality(alloc, bank, place, s, t)?;
+            Ok(steady(read, next))
+        }
+        FormSyntax::Not(a) => {
+            let read = elaborate_form(alloc, bank, place, next, a.get())?;
+            negated(alloc, read)
+        }
+        FormSyntax::And(all) => {
+            let read = elaborate_forms(alloc, bank, place, next, all.as_slice())?;
+            conjunction(alloc, read)
+        }
+        FormSyntax::Or(all) => {
+            let read = elaborate_forms(alloc, bank, place, next, all.as_slice())?;
+            disjunction(alloc, read)
+        }
+        FormSyntax::Implies(a, b) => implication(alloc, bank, place, next, a.get(), b.get()),
+        FormSyntax::BothWays(a, b) => both_ways(alloc, bank, place, next, a.get(), b.get()),
+        FormSyntax::Quantified(quantifier, binders, a) => {
+            if binders.is_empty() {
+                return Ok(None);
+            }
+            quantified(
+                alloc,
+                bank,
+                place,
+                next,
+                *quantifier,
+                binders.as_slice(),
+                a.get(),
+            )
+        }
+    }
+}
+
+/// The formulas that the syntax trees stand for, one after the other.
+#[cycle(forms)]
+#[tactic(auto, using(crate::proofs::Owning::owning))]
+fn elaborate_forms(
+    alloc: Global,
+    bank: &mut Bank,
+    place: &Inside,
+    next: u32,
+    all: &[FormSyntax],
+) -> Result<Option<(Items<QForm>, u32)>, NoMemory>
+    ensures tree { IfOk result (λ o. option_map bare_readings o ≡ in_turn (map elaboration.elaborate_form all.now) (spoken_at place.now) next) }
+    ensures extends { Extends bank.old bank.new }
+    ensures belongs { IfOk result (λ o. IfSome o (λ r. All (QFormBelongs bank.new) r.0)) }
+{
+    let mut parts = Items::new(alloc);
+    let mut after = next;
+    for syntax in all {
+        match elaborate_form(alloc, bank, place, after, syntax)? {
+            None => return Ok(None),
+            Some((part, last)) => {
+                parts.push(part)?;
+                after = last;
+            }
+        }
+    }
+    Ok(Some((parts, after)))
+}
+
+/// The implication from the first to the second.
+#[cycle(forms)]
+#[tactic(auto, using(crate::proofs::Owning::owning))]
+fn implication(
+    alloc: Global,
+    bank: &mut Bank,
+    place: &Inside,
+    next: u32,
+    a: &FormSyntax,
+    b: &FormSyntax,
+) -> Result<Option<(QForm, u32)>, NoMemory>
+    ensures tree { IfOk result (λ o. option_map bare_reading o ≡ and_then view.Implies (elaboration.elaborate_form a.now) (elaboration.elaborate_form b.now) (spoken_at place.now) next) }
+    ensures extends { Extends bank.old bank.new }
+    ensures belongs { IfOk result (λ o. IfSome o (λ r. QFormBelongs bank.new r.0)) }
+{
+    let Some((left, after)) = elaborate_form(alloc, bank, place, next, a)? else {
+        return Ok(None);
+    };
+    let Some((right, last)) = elaborate_form(alloc, bank, place, after, b)? else {
+        return Ok(None);
+    };
+    Ok(Some((implies(alloc, left, right)?, last)))
+}
+
+/// The implications both ways, each with binders of its own; rows have none.
+#[cycle(forms)]
+#[tactic(auto, using(crate::proofs::Owning::owning))]
+fn both_ways(
+    alloc: Global,
+    bank: &mut Bank,
+    place: &Inside,
+    next: u32,
+    a: &FormSyntax,
+    b: &FormSyntax,
+) -> Result<Option<(QForm, u32)>, NoMemory>
+    ensures tree { IfOk result (λ o. option_map bare_reading o ≡ two_ways (elaboration.elaborate_form a.now) (elaboration.elaborate_form b.now) (spoken_at place.now) next) }
+    ensures extends { Extends bank.old bank.new }
+    ensures belongs { IfOk result (λ o. IfSome o (λ r. QFormBelongs bank.new r.0)) }
+{
+    if place.rows {
+        return Ok(None);
+    }
+    let Some((there, after)) = implication(alloc, bank, place, next, a, b)? else {
+        return Ok(None);
+    };
+    let Some((back, last)) = implication(alloc, bank, place, after, b, a)? else {
+        return Ok(None);
+    };
+    Ok(Some((both(alloc, there, back)?, last)))
+}
+
+/// The formula under quantifiers, one for each binder, the first the outermost.
+#[cycle(forms)]
+#[tactic(auto, using(crate::proofs::Owning::owning))]
+fn quantified(
+    alloc: Global,
+    bank: &mut Bank,
+    place: &Inside,
+    next: u32,
+    quantifier: Quantifier,
+    binders: &[BinderSyntax],
+    a: &FormSyntax,
+) -> Result<Option<(QForm, u32)>, NoMemory>
+    ensures tree { IfOk result (λ o. option_map bare_reading o ≡ nested quantifier binders.now (elaboration.elaborate_form a.now) (spoken_at place.now) next) }
+    ensures extends { Extends bank.old bank.new }
+    ensures belongs { IfOk result (λ o. IfSome o (λ r. QFormBelongs bank.new r.0)) }
+{
+    match binders {
+        [] => elaborate_form(alloc, bank, place, next, a),
+        [binder, rest @ ..] => {
+            let Some(var) = binder_var(place, next, binder) else {
+                return Ok(None);
+            };
+            let Some(after) = next.checked_add(1) else {
+                return Err(NoMemory);
+            };
+            let name = Text::from_str(alloc, binder.name.as_str())?;
+            let binder = Binder { var, name };
+            let place = within(&*place, &binder);
+            match quantified(alloc, bank, &place, after, quantifier, rest, a)? {
+                None => Ok(None),
+                Some((f, last)) => Ok(Some((quantify(alloc, quantifier, binder, f)?, last))),
+            }
+        }
+    }
+}

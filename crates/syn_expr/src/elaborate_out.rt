@@ -1,0 +1,96 @@
+// The formula without quantifiers, and the output, that a syntax tree stands for, made by a bank.
+ghost use Rattle.std.specs.Prelude.{◌≡◌, IfOk, IfSome};
+ghost use Rattle.std.specs.Option.{option_map};
+ghost use Rattle.syn_term.specs.Bank.{Extends, Kept};
+ghost use Rattle.syn_form.specs.Elaboration as elaboration;
+ghost use Rattle.syn_form.specs.Plain as plain;
+ghost use Rattle.syn_form.specs.Trees.{bare_form, bare_out};
+ghost use Rattle.syn_expr.specs.Belonging.{FormBelongs, OutBelongs};
+ghost use Rattle.syn_expr.specs.Places.{spoken_at};
+
+use crate::elaborate_form::elaborate_form;
+use crate::elaborate_term::elaborate_term;
+use crate::names::Inside;
+use crate::sorts::{are_of_one_sort, sort_in};
+use crate::unquantified::without_quantifiers;
+use std::alloc::Global;
+use syn_form::{Form, FormSyntax, Out, OutSyntax};
+use syn_term::{Bank, NoMemory, Shared, Sort, Symbols};
+
+/// The formula without quantifiers that the syntax tree stands for; None where it stands for none.
+/// The one error is want of memory, or of numbers for binders.
+#[tactic(auto, using(crate::proofs::Owning::owning_outs))]
+pub(crate) fn elaborate_plain(
+    alloc: Global,
+    bank: &mut Bank,
+    place: &Inside,
+    syntax: &FormSyntax,
+) -> Result<Option<Form>, NoMemory>
+    ensures tree { IfOk result (λ o. option_map bare_form o ≡ elaboration.elaborate_plain (spoken_at place.now) syntax.now) }
+    ensures extends { Extends bank.old bank.new }
+    ensures belongs { IfOk result (λ o. IfSome o (FormBelongs bank.new)) }
+{
+    match elaborate_form(alloc, bank, place, 1, syntax)? {
+        None => Ok(None),
+        Some((f, _)) => without_quantifiers(alloc, &f),
+    }
+}
+
+/// The sort of the term that the output gives, by its first arm.
+fn given_sort(syms: &Symbols, o: &Out) -> Option<Sort>
+    ensures { result ≡ plain.given_sort syms.now o.now }
+{
+    match o {
+        Out::Give(t) => sort_in(syms, t),
+        Out::If(_, u, _) => given_sort(syms, u.get()),
+    }
+}
+
+/// The choice between two arms; None where they don't give terms of one sort.
+#[tactic(auto, using(crate::proofs::Owning::owning_outs))]
+fn choice(alloc: Global, syms: &Symbols, f: Form, u: Out, v: Out) -> Result<Option<Out>, NoMemory>
+    ensures tree { IfOk result (λ o. option_map bare_out o ≡ elaboration.sorted_choice syms.now (bare_form f) (bare_out u) (bare_out v)) }
+    ensures belongs { (b : Kept) → FormBelongs b f → OutBelongs b u → OutBelongs b v → IfOk result (λ o. IfSome o (OutBelongs b)) }
+{
+    if are_of_one_sort(given_sort(syms, &u), given_sort(syms, &v)) {
+        let f = Shared::new(alloc, f)?;
+        let u = Shared::new(alloc, u)?;
+        let v = Shared::new(alloc, v)?;
+        Ok(Some(Out::If(f, u, v)))
+    } else {
+        Ok(None)
+    }
+}
+
+/// The output that the syntax tree stands for; None where a name isn't there, sorts don't fit or a
+/// test has a quantifier. The one error is want of memory, or of numbers for binders.
+#[tactic(auto, using(crate::proofs::Owning::owning_outs))]
+pub(crate) fn elaborate_out(
+    alloc: Global,
+    bank: &mut Bank,
+    place: &Inside,
+    syntax: &OutSyntax,
+) -> Result<Option<Out>, NoMemory>
+    ensures tree { IfOk result (λ o. option_map bare_out o ≡ elaboration.elaborate_out (spoken_at place.now) syntax.now) }
+    ensures extends { Extends bank.old bank.new }
+    ensures belongs { IfOk result (λ o. IfSome o (OutBelongs bank.new)) }
+{
+    match syntax {
+        OutSyntax::Give(t) => match elaborate_term(alloc, bank, place, t)? {
+            None => Ok(None),
+            Some(t) => Ok(Some(Out::Give(t))),
+        },
+        OutSyntax::If(f, u, v) => {
+            let Some(f) = elaborate_plain(alloc, bank, place, f)? else {
+                return Ok(None);
+            };
+            let Some(u) = elaborate_out(alloc, bank, place, u.get())? else {
+                return Ok(None);
+            };
+            let Some(v) = elaborate_out(alloc, bank, place, v.get())? else {
+                return Ok(None);
+            };
+            choice(alloc, place.syms, f, u, v)
+        }
+    }
+}

@@ -1,0 +1,173 @@
+// The term that a syntax tree stands for, made by a bank.
+ghost use Rattle.std.specs.Prelude.{◌≡◌, All, map, IfOk, IfSome};
+ghost use Rattle.std.specs.Option.{option_and_then, option_map};
+ghost use Rattle.syn_term.specs.Bank.{Belongs, Extends};
+ghost use Rattle.syn_term.specs.Terms.{bare};
+ghost use Rattle.syn_form.specs.Elaboration as elaboration;
+ghost use Rattle.syn_form.specs.Elaboration.{sorted_application};
+ghost use Rattle.syn_expr.specs.Elaborating.{next_tree};
+ghost use Rattle.syn_expr.specs.Places.{spoken_at};
+
+use crate::lookups::{head_symbol, head_var, symbol_named, written_sort};
+use crate::names::Inside;
+use sqlite_items::Items;
+use std::alloc::Global;
+use syn_form::{HeadName, TermSyntax};
+use syn_term::{Bank, NoMemory, SymId, Symbols, Term, Text, Var};
+
+/// The symbol with the arguments; None where there is no symbol, or it doesn't take them.
+#[tactic(auto, using(crate::proofs::Growth::growth))]
+fn applied(
+    alloc: Global,
+    bank: &mut Bank,
+    syms: &Symbols,
+    symbol: Option<SymId>,
+    args: &[Term],
+) -> Result<Option<Term>, NoMemory>
+    requires { All (Belongs bank.old) args.now }
+    ensures tree { IfOk result (λ o. option_map bare o ≡ option_and_then (sorted_application syms.now (map bare args.now)) symbol) }
+    ensures extends { Extends bank.old bank.new }
+    ensures belongs { IfOk result (λ o. IfSome o (Belongs bank.new)) }
+{
+    match symbol {
+        None => Ok(None),
+        Some(f) => bank.app(alloc, syms, f, args),
+    }
+}
+
+/// The successor of the term, where there is one and `s` takes it.
+#[tactic(auto, using(crate::proofs::Growth::growth))]
+fn successor(
+    alloc: Global,
+    bank: &mut Bank,
+    syms: &Symbols,
+    term: Option<Term>,
+) -> Result<Option<Term>, NoMemory>
+    requires { IfSome term (Belongs bank.old) }
+    ensures tree { IfOk result (λ o. option_map bare o ≡ option_and_then (next_tree syms.now) (option_map bare term)) }
+    ensures extends { Extends bank.old bank.new }
+    ensures belongs { IfOk result (λ o. IfSome o (Belongs bank.new)) }
+{
+    match term {
+        None => Ok(None),
+        Some(term) => applied(alloc, bank, syms, symbol_named(syms, "s"), &[term]),
+    }
+}
+
+/// So many times `s` over `0`.
+#[tactic(auto, using(crate::proofs::Growth::growth))]
+fn successors(
+    alloc: Global,
+    bank: &mut Bank,
+    syms: &Symbols,
+    count: u32,
+) -> Result<Option<Term>, NoMemory>
+    ensures tree { IfOk result (λ o. option_map bare o ≡ elaboration.successors syms.now count) }
+    ensures extends { Extends bank.old bank.new }
+    ensures belongs { IfOk result (λ o. IfSome o (Belongs bank.new)) }
+{
+    let mut top = applied(alloc, bank, syms, symbol_named(syms, "0"), &[])?;
+    for _ in 0..count {
+        top = successor(alloc, bank, syms, top)?;
+    }
+    Ok(top)
+}
+
+/// The term that a number stands for.
+#[tactic(auto, using(crate::proofs::Growth::growth))]
+fn number_term(
+    alloc: Global,
+    bank: &mut Bank,
+    syms: &Symbols,
+    number: u32,
+) -> Result<Option<Term>, NoMemory>
+    ensures tree { IfOk result (λ o. option_map bare o ≡ elaboration.number_tree syms.now number) }
+    ensures extends { Extends bank.old bank.new }
+    ensures belongs { IfOk result (λ o. IfSome o (Belongs bank.new)) }
+{
+    if 1000 < number {
+        Ok(None)
+    } else {
+        successors(alloc, bank, syms, number)
+    }
+}
+
+/// The row variable with the number and the sort; None outside of rows, or where no sort has the
+/// name.
+#[tactic(auto, using(crate::proofs::Growth::growth))]
+fn row_term(
+    alloc: Global,
+    bank: &mut Bank,
+    place: &Inside,
+    number: u32,
+    sort: &Option<Text>,
+) -> Result<Option<Term>, NoMemory>
+    ensures tree { IfOk result (λ o. option_map bare o ≡ elaboration.row_tree (spoken_at place.now) number sort.now) }
+    ensures extends { Extends bank.old bank.new }
+    ensures belongs { IfOk result (λ o. IfSome o (Belongs bank.new)) }
+{
+    if !place.rows {
+        return Ok(None);
+    }
+    match written_sort(place.syms, sort) {
+        None => Ok(None),
+        Some(sort) => Ok(Some(bank.var(alloc, Var { number, sort })?)),
+    }
+}
+
+/// The term that a head stands for by itself.
+#[tactic(auto, using(crate::proofs::Growth::growth))]
+fn head_term(
+    alloc: Global,
+    bank: &mut Bank,
+    place: &Inside,
+    head: &HeadName,
+) -> Result<Option<Term>, NoMemory>
+    ensures tree { IfOk result (λ o. option_map bare o ≡ elaboration.alone_tree (spoken_at place.now) head.now (elaboration.head_var (spoken_at place.now) head.now)) }
+    ensures extends { Extends bank.old bank.new }
+    ensures belongs { IfOk result (λ o. IfSome o (Belongs bank.new)) }
+{
+    match head_var(place, head) {
+        Some(var) => Ok(Some(bank.var(alloc, var)?)),
+        None => applied(alloc, bank, place.syms, head_symbol(place, head), &[]),
+    }
+}
+
+/// The term that the syntax tree stands for, None where a name isn't there or a symbol doesn't take
+/// its arguments. The one error is want of memory.
+#[tactic(auto, using(crate::proofs::Growth::growth))]
+pub(crate) fn elaborate_term(
+    alloc: Global,
+    bank: &mut Bank,
+    place: &Inside,
+    syntax: &TermSyntax,
+) -> Result<Option<Term>, NoMemory>
+    ensures tree { IfOk result (λ o. option_map bare o ≡ elaboration.elaborate_term (spoken_at place.now) syntax.now) }
+    ensures extends { Extends bank.old bank.new }
+    ensures belongs { IfOk result (λ o. IfSome o (Belongs bank.new)) }
+{
+    match syntax {
+        TermSyntax::Number(number) => number_term(alloc, bank, place.syms, *number),
+        TermSyntax::RowVar(number, sort) => row_term(alloc, bank, place, *number, sort),
+        TermSyntax::Alone(head) => head_term(alloc, bank, place, head),
+        TermSyntax::Applied(head, args) => {
+            if args.is_empty() {
+                return Ok(None);
+            }
+            let mut parts = Items::new(alloc);
+            for arg in args.as_slice() {
+                match elaborate_term(alloc, bank, place, arg)? {
+                    None => return Ok(None),
+                    Some(part) => parts.push(part)?,
+                }
+            }
+            applied(
+                alloc,
+                bank,
+                place.syms,
+                head_symbol(place, head),
+                parts.as_slice(),
+            )
+        }
+    }
+}

@@ -1,0 +1,216 @@
+// Formulas made from their parts: atoms and equalities from syntax trees, the rest from what was read.
+ghost use Rattle.std.specs.Prelude.{◌≡◌, [], ◌∷◌, All, map, IfOk, IfSome};
+ghost use Rattle.std.specs.Option.{option_and_then, option_map};
+ghost use Rattle.syn_term.specs.Bank.{Belongs, Extends, Kept};
+ghost use Rattle.syn_term.specs.Terms.{bare};
+ghost use Rattle.syn_form.specs.Elaboration as elaboration;
+ghost use Rattle.syn_form.specs.Elaboration.{quantifier_tree, sorted_atom};
+ghost use Rattle.syn_form.specs.Lists.{all_there};
+ghost use Rattle.syn_form.specs.Quantified.{bare_qform};
+ghost use Rattle.syn_form.specs.declared.trees.QForm.TheViews as view;
+ghost use Rattle.syn_expr.specs.Belonging.{QFormBelongs};
+ghost use Rattle.syn_expr.specs.Elaborating.{bare_reading, bare_readings};
+ghost use Rattle.syn_expr.specs.Places.{spoken_at};
+
+use crate::elaborate_term::elaborate_term;
+use crate::lookups::symbol_named;
+use crate::names::Inside;
+use crate::sorts::{are_of_one_sort, is_atom, sort_in};
+use sqlite_items::Items;
+use std::alloc::Global;
+use syn_form::{Binder, QForm, Quantifier, TermSyntax};
+use syn_term::{Bank, NoMemory, Shared, SymId, Symbols, Term, Text};
+
+/// The terms that the syntax trees stand for; None where one stands for none.
+#[tactic(auto, using(crate::proofs::Growth::growth))]
+fn elaborate_terms(
+    alloc: Global,
+    bank: &mut Bank,
+    place: &Inside,
+    all: &[TermSyntax],
+) -> Result<Option<Items<Term>>, NoMemory>
+    ensures tree { IfOk result (λ o. option_map (map bare) o ≡ all_there (map (elaboration.elaborate_term (spoken_at place.now)) all.now)) }
+    ensures extends { Extends bank.old bank.new }
+    ensures belongs { IfOk result (λ o. IfSome o (All (Belongs bank.new))) }
+{
+    let mut terms = Items::new(alloc);
+    for syntax in all {
+        match elaborate_term(alloc, bank, place, syntax)? {
+            None => return Ok(None),
+            Some(term) => terms.push(term)?,
+        }
+    }
+    Ok(Some(terms))
+}
+
+/// The symbol before the terms; None where there is no symbol, or it makes no atom of them.
+#[tactic(auto, using(crate::proofs::Owning::owning))]
+fn atom(
+    alloc: Global,
+    syms: &Symbols,
+    symbol: Option<SymId>,
+    args: Items<Term>,
+) -> Result<Option<QForm>, NoMemory>
+    ensures tree { IfOk result (λ o. option_map bare_qform o ≡ option_and_then (sorted_atom syms.now (map bare args)) symbol) }
+    ensures belongs { (b : Kept) → All (Belongs b) args → IfOk result (λ o. IfSome o (QFormBelongs b)) }
+{
+    let Some(r) = symbol else {
+        return Ok(None);
+    };
+    if !is_atom(syms, r, args.as_slice()) {
+        return Ok(None);
+    }
+    Ok(Some(QForm::Atom(r, Shared::new(alloc, args)?)))
+}
+
+/// The atom that a name with arguments stands for.
+#[tactic(auto, using(crate::proofs::Owning::owning))]
+pub(crate) fn elaborate_atom(
+    alloc: Global,
+    bank: &mut Bank,
+    place: &Inside,
+    name: &Text,
+    args: &[TermSyntax],
+) -> Result<Option<QForm>, NoMemory>
+    ensures tree { IfOk result (λ o. option_map bare_qform o ≡ elaboration.atom_tree (spoken_at place.now) name.now (map (elaboration.elaborate_term (spoken_at place.now)) args.now)) }
+    ensures extends { Extends bank.old bank.new }
+    ensures belongs { IfOk result (λ o. IfSome o (QFormBelongs bank.new)) }
+{
+    if args.is_empty() {
+        return Ok(None);
+    }
+    match elaborate_terms(alloc, bank, place, args)? {
+        None => Ok(None),
+        Some(args) => atom(
+            alloc,
+            place.syms,
+            symbol_named(place.syms, name.as_str()),
+            args,
+        ),
+    }
+}
+
+/// The equality of two terms; None where they aren't of one sort.
+#[tactic(auto, using(crate::proofs::Owning::owning))]
+fn equality(syms: &Symbols, s: Term, t: Term) -> Option<QForm>
+    ensures tree { option_map bare_qform result ≡ elaboration.sorted_equality syms.now (bare s) (bare t) }
+    ensures belongs { (b : Kept) → Belongs b s → Belongs b t → IfSome result (QFormBelongs b) }
+{
+    if are_of_one_sort(sort_in(syms, &s), sort_in(syms, &t)) {
+        Some(QForm::Equal(s, t))
+    } else {
+        None
+    }
+}
+
+/// The equality that two sides stand for.
+#[tactic(auto, using(crate::proofs::Owning::owning))]
+pub(crate) fn elaborate_equality(
+    alloc: Global,
+    bank: &mut Bank,
+    place: &Inside,
+    s: &TermSyntax,
+    t: &TermSyntax,
+) -> Result<Option<QForm>, NoMemory>
+    ensures tree { IfOk result (λ o. option_map bare_qform o ≡ elaboration.equality_tree (spoken_at place.now) (elaboration.elaborate_term (spoken_at place.now) s.now) (elaboration.elaborate_term (spoken_at place.now) t.now)) }
+    ensures extends { Extends bank.old bank.new }
+    ensures belongs { IfOk result (λ o. IfSome o (QFormBelongs bank.new)) }
+{
+    let Some(s) = elaborate_term(alloc, bank, place, s)? else {
+        return Ok(None);
+    };
+    let Some(t) = elaborate_term(alloc, bank, place, t)? else {
+        return Ok(None);
+    };
+    Ok(equality(place.syms, s, t))
+}
+
+/// What has no binder leaves the number of the next one.
+#[tactic(auto, using(crate::proofs::Owning::owning))]
+pub(crate) fn steady(read: Option<QForm>, next: u32) -> Option<(QForm, u32)>
+    ensures tree { option_map bare_reading result ≡ option_map (λ a. (a, next)) (option_map bare_qform read) }
+    ensures belongs { (b : Kept) → IfSome read (QFormBelongs b) → IfSome result (λ r. QFormBelongs b r.0) }
+{
+    match read {
+        None => None,
+        Some(f) => Some((f, next)),
+    }
+}
+
+/// The negation of what was read.
+#[tactic(auto, using(crate::proofs::Owning::owning))]
+pub(crate) fn negated(
+    alloc: Global,
+    read: Option<(QForm, u32)>,
+) -> Result<Option<(QForm, u32)>, NoMemory>
+    ensures tree { IfOk result (λ o. option_map bare_reading o ≡ option_map (λ a. (view.Not a.0, a.1)) (option_map bare_reading read)) }
+    ensures belongs { (b : Kept) → IfSome read (λ r. QFormBelongs b r.0) → IfOk result (λ o. IfSome o (λ r. QFormBelongs b r.0)) }
+{
+    match read {
+        None => Ok(None),
+        Some((f, next)) => Ok(Some((QForm::Not(Shared::new(alloc, f)?), next))),
+    }
+}
+
+/// The `and` of what was read.
+#[tactic(auto, using(crate::proofs::Owning::owning))]
+pub(crate) fn conjunction(
+    alloc: Global,
+    read: Option<(Items<QForm>, u32)>,
+) -> Result<Option<(QForm, u32)>, NoMemory>
+    ensures tree { IfOk result (λ o. option_map bare_reading o ≡ option_map (λ a. (view.And a.0, a.1)) (option_map bare_readings read)) }
+    ensures belongs { (b : Kept) → IfSome read (λ r. All (QFormBelongs b) r.0) → IfOk result (λ o. IfSome o (λ r. QFormBelongs b r.0)) }
+{
+    match read {
+        None => Ok(None),
+        Some((all, next)) => Ok(Some((QForm::And(Shared::new(alloc, all)?), next))),
+    }
+}
+
+/// The `or` of what was read.
+#[tactic(auto, using(crate::proofs::Owning::owning))]
+pub(crate) fn disjunction(
+    alloc: Global,
+    read: Option<(Items<QForm>, u32)>,
+) -> Result<Option<(QForm, u32)>, NoMemory>
+    ensures tree { IfOk result (λ o. option_map bare_reading o ≡ option_map (λ a. (view.Or a.0, a.1)) (option_map bare_readings read)) }
+    ensures belongs { (b : Kept) → IfSome read (λ r. All (QFormBelongs b) r.0) → IfOk result (λ o. IfSome o (λ r. QFormBelongs b r.0)) }
+{
+    match read {
+        None => Ok(None),
+        Some((all, next)) => Ok(Some((QForm::Or(Shared::new(alloc, all)?), next))),
+    }
+}
+
+/// The implication from the first to the second.
+pub(crate) fn implies(alloc: Global, a: QForm, b: QForm) -> Result<QForm, NoMemory>
+    ensures { IfOk result (λ f. f ≡ view.Implies a b) }
+{
+    Ok(QForm::Implies(Shared::new(alloc, a)?, Shared::new(alloc, b)?))
+}
+
+/// The `and` of two formulas.
+pub(crate) fn both(alloc: Global, a: QForm, b: QForm) -> Result<QForm, NoMemory>
+    ensures { IfOk result (λ f. f ≡ view.And (a ∷ b ∷ [])) }
+{
+    let mut all = Items::new(alloc);
+    all.push(a)?;
+    all.push(b)?;
+    Ok(QForm::And(Shared::new(alloc, all)?))
+}
+
+/// The formula under a quantifier.
+pub(crate) fn quantify(
+    alloc: Global,
+    quantifier: Quantifier,
+    binder: Binder,
+    f: QForm,
+) -> Result<QForm, NoMemory>
+    ensures { IfOk result (λ g. g ≡ quantifier_tree quantifier binder.name binder.var f) }
+{
+    let f = Shared::new(alloc, f)?;
+    match quantifier {
+        Quantifier::All => Ok(QForm::All(binder, f)),
+        Quantifier::Exists => Ok(QForm::Exists(binder, f)),
+    }
+}

@@ -1,0 +1,177 @@
+// How many nodes what a syntax tree stands for will have, and how deep it will be: counted before
+// anything is made, and no further than a limit asks.
+ghost use Rattle.std.specs.Prelude.{◌≡◌, ◌+◌, map, max, min, sum};
+ghost use Rattle.syn_term.specs.Terms.{greatest};
+ghost use Rattle.syn_expr.specs.Limits as limits;
+
+use syn_form::{FormSyntax, OutSyntax, TermSyntax};
+
+/// The number, or `cap + 1` where it is more than `cap`.
+fn capped(number: u64, cap: u32) -> u64
+    ensures { result ≡ min number (cap + 1) }
+{
+    let most = u64::from(cap) + 1;
+    if most < number { most } else { number }
+}
+
+/// The greater of two numbers.
+fn greater(a: u64, b: u64) -> u64
+    ensures { result ≡ max a b }
+{
+    if a < b { b } else { a }
+}
+
+/// The nodes of the term, or `cap + 1` where there are more than `cap`.
+pub(crate) fn term_cost(t: &TermSyntax, cap: u32) -> u64
+    ensures { result ≡ min (limits.term_cost t.now) (cap + 1) }
+{
+    match t {
+        TermSyntax::Number(number) => capped(u64::from(*number) + 1, cap),
+        TermSyntax::RowVar(_, _) | TermSyntax::Alone(_) => 1,
+        TermSyntax::Applied(_, args) => {
+            let mut total: u64 = 1;
+            for arg in args.as_slice() {
+                total = capped(total + term_cost(arg, cap), cap);
+            }
+            total
+        }
+    }
+}
+
+/// The depth of the term, or `cap + 1` where it is more than `cap`.
+pub(crate) fn term_levels(t: &TermSyntax, cap: u32) -> u64
+    ensures { result ≡ min (limits.term_levels t.now) (cap + 1) }
+{
+    match t {
+        TermSyntax::Number(number) => capped(u64::from(*number) + 1, cap),
+        TermSyntax::RowVar(_, _) | TermSyntax::Alone(_) => 1,
+        TermSyntax::Applied(_, args) => {
+            let mut deepest: u64 = 0;
+            for arg in args.as_slice() {
+                deepest = greater(deepest, term_levels(arg, cap));
+            }
+            capped(1 + deepest, cap)
+        }
+    }
+}
+
+/// One node and those of the terms, or `cap + 1` where these are more than `cap`.
+fn atom_cost(args: &[TermSyntax], cap: u32) -> u64
+    ensures { result ≡ min (1 + sum (map limits.term_cost args.now)) (cap + 1) }
+{
+    let mut total: u64 = 1;
+    for arg in args {
+        total = capped(total + term_cost(arg, cap), cap);
+    }
+    total
+}
+
+/// One more than the depth of the deepest term, or `cap + 1` where this is more than `cap`.
+fn atom_levels(args: &[TermSyntax], cap: u32) -> u64
+    ensures { result ≡ min (1 + greatest (map limits.term_levels args.now)) (cap + 1) }
+{
+    let mut deepest: u64 = 0;
+    for arg in args {
+        deepest = greater(deepest, term_levels(arg, cap));
+    }
+    capped(1 + deepest, cap)
+}
+
+/// The nodes of the formula, or `cap + 1` where there are more than `cap`.
+pub(crate) fn form_cost(f: &FormSyntax, cap: u32) -> u64
+    ensures { result ≡ min (limits.form_cost f.now) (cap + 1) }
+{
+    match f {
+        FormSyntax::True | FormSyntax::False => 1,
+        FormSyntax::Atom(_, args) => atom_cost(args.as_slice(), cap),
+        FormSyntax::Equal(s, t) => capped(1 + (term_cost(s, cap) + term_cost(t, cap)), cap),
+        FormSyntax::Not(a) => capped(1 + form_cost(a.get(), cap), cap),
+        FormSyntax::And(all) | FormSyntax::Or(all) => {
+            let mut total: u64 = 1;
+            for part in all.as_slice() {
+                total = capped(total + form_cost(part, cap), cap);
+            }
+            total
+        }
+        FormSyntax::Implies(a, b) => {
+            capped(1 + (form_cost(a.get(), cap) + form_cost(b.get(), cap)), cap)
+        }
+        FormSyntax::BothWays(a, b) => {
+            capped(
+                3 + 2 * (form_cost(a.get(), cap) + form_cost(b.get(), cap)),
+                cap,
+            )
+        }
+        FormSyntax::Quantified(_, binders, a) => {
+            capped(
+                capped(binders.len() as u64, cap) + form_cost(a.get(), cap),
+                cap,
+            )
+        }
+    }
+}
+
+/// The depth of the formula, or `cap + 1` where it is more than `cap`.
+pub(crate) fn form_levels(f: &FormSyntax, cap: u32) -> u64
+    ensures { result ≡ min (limits.form_levels f.now) (cap + 1) }
+{
+    match f {
+        FormSyntax::True | FormSyntax::False => 1,
+        FormSyntax::Atom(_, args) => atom_levels(args.as_slice(), cap),
+        FormSyntax::Equal(s, t) => {
+            capped(1 + greater(term_levels(s, cap), term_levels(t, cap)), cap)
+        }
+        FormSyntax::Not(a) => capped(1 + form_levels(a.get(), cap), cap),
+        FormSyntax::And(all) | FormSyntax::Or(all) => {
+            let mut deepest: u64 = 0;
+            for part in all.as_slice() {
+                deepest = greater(deepest, form_levels(part, cap));
+            }
+            capped(1 + deepest, cap)
+        }
+        FormSyntax::Implies(a, b) => {
+            capped(
+                1 + greater(form_levels(a.get(), cap), form_levels(b.get(), cap)),
+                cap,
+            )
+        }
+        FormSyntax::BothWays(a, b) => {
+            capped(
+                2 + greater(form_levels(a.get(), cap), form_levels(b.get(), cap)),
+                cap,
+            )
+        }
+        FormSyntax::Quantified(_, binders, a) => {
+            capped(
+                capped(binders.len() as u64, cap) + form_levels(a.get(), cap),
+                cap,
+            )
+        }
+    }
+}
+
+/// The nodes of the output, or `cap + 1` where there are more than `cap`.
+pub(crate) fn out_cost(o: &OutSyntax, cap: u32) -> u64
+    ensures { result ≡ min (limits.out_cost o.now) (cap + 1) }
+{
+    match o {
+        OutSyntax::Give(t) => term_cost(t, cap),
+        OutSyntax::If(f, u, v) => {
+            let arms = out_cost(u.get(), cap) + out_cost(v.get(), cap);
+            capped(1 + (form_cost(f, cap) + arms), cap)
+        }
+    }
+}
+
+/// The depth of the output, or `cap + 1` where it is more than `cap`.
+pub(crate) fn out_levels(o: &OutSyntax, cap: u32) -> u64
+    ensures { result ≡ min (limits.out_levels o.now) (cap + 1) }
+{
+    match o {
+        OutSyntax::Give(t) => term_levels(t, cap),
+        OutSyntax::If(f, u, v) => {
+            let arms = greater(out_levels(u.get(), cap), out_levels(v.get(), cap));
+            capped(1 + greater(form_levels(f, cap), arms), cap)
+        }
+    }
+}

@@ -1,0 +1,59 @@
+// Formulas with quantifiers that have none, as formulas without them. Terms are shared.
+ghost use Rattle.std.specs.Prelude.{◌≡◌, map, IfOk};
+ghost use Rattle.syn_form.specs.Lists.{all_there};
+ghost use Rattle.syn_form.specs.Quantified.{unquantified};
+
+use sqlite_items::Items;
+use std::alloc::Global;
+use syn_form::{Form, QForm};
+use syn_term::{NoMemory, Shared};
+
+/// The same formula as one without quantifiers; None where it has one.
+#[cycle(unquantified)]
+pub(crate) fn without_quantifiers(alloc: Global, f: &QForm) -> Result<Option<Form>, NoMemory>
+    ensures { IfOk result (λ o. o ≡ unquantified f.now) }
+{
+    match f {
+        QForm::True => Ok(Some(Form::True)),
+        QForm::False => Ok(Some(Form::False)),
+        QForm::Atom(r, args) => Ok(Some(Form::Atom(*r, args.again()?))),
+        QForm::Equal(s, t) => Ok(Some(Form::Equal(s.again()?, t.again()?))),
+        QForm::Not(a) => match without_quantifiers(alloc, a.get())? {
+            None => Ok(None),
+            Some(a) => Ok(Some(Form::Not(Shared::new(alloc, a)?))),
+        },
+        QForm::And(all) => match all_without(alloc, all.get().as_slice())? {
+            None => Ok(None),
+            Some(all) => Ok(Some(Form::And(Shared::new(alloc, all)?))),
+        },
+        QForm::Or(all) => match all_without(alloc, all.get().as_slice())? {
+            None => Ok(None),
+            Some(all) => Ok(Some(Form::Or(Shared::new(alloc, all)?))),
+        },
+        QForm::Implies(a, b) => {
+            let Some(a) = without_quantifiers(alloc, a.get())? else {
+                return Ok(None);
+            };
+            let Some(b) = without_quantifiers(alloc, b.get())? else {
+                return Ok(None);
+            };
+            Ok(Some(Form::Implies(Shared::new(alloc, a)?, Shared::new(alloc, b)?)))
+        }
+        QForm::All(_, _) | QForm::Exists(_, _) => Ok(None),
+    }
+}
+
+/// The same for several; None where one has a quantifier.
+#[cycle(unquantified)]
+fn all_without(alloc: Global, all: &[QForm]) -> Result<Option<Items<Form>>, NoMemory>
+    ensures { IfOk result (λ o. o ≡ all_there (map unquantified all.now)) }
+{
+    let mut parts = Items::new(alloc);
+    for f in all {
+        match without_quantifiers(alloc, f)? {
+            None => return Ok(None),
+            Some(part) => parts.push(part)?,
+        }
+    }
+    Ok(Some(parts))
+}
