@@ -74,9 +74,9 @@ abbrev pub head_symbol : TextScope → HeadName → Option SymId
 head_symbol scope (head.Name x) = symbol_named scope.table x
 head_symbol scope (head.Skolem x) = if scope.rows then option_map sym_id (position (bytes_eq x) (names_of scope.table)) else None
 
--- the variable that a head names
+-- the variable that a head names; a reserved word names none
 abbrev pub head_var : TextScope → HeadName → Option Var
-head_var scope (head.Name x) = var_named scope.names x
+head_var scope (head.Name x) = if is_reserved x then None else var_named scope.names x
 head_var scope (head.Skolem x) = None
 
 -- a head by itself is a variable, where one is named so, or a symbol

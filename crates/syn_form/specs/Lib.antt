@@ -15,4 +15,5 @@ pub mod Lists
 pub mod Quantified
 pub mod Elaboration
 pub mod Texts
+pub mod Readable
 pub mod Joining
