@@ -1,17 +1,9 @@
 pub mod Scopes
-pub mod Items
 pub mod Places
-pub mod Heights
-pub mod FormMachine
-pub mod BindingMachine
-pub mod ItemMachine
 pub mod Elaborating
 pub mod Limits
 pub mod Sorted
 pub mod Proper
 pub mod Belonging
-pub mod Lexemes
-pub mod OutMachine
-pub mod Written
 pub mod Accepting
 pub mod Reading

@@ -1,7 +1,6 @@
 -- Syntax trees that may stand for trees, by their words alone.
 use Rattle.std.specs.Prelude.{◌≡◌, ℕ, Bool, true, false, not, ◌&&◌, ◌||◌, List, [], ◌∷◌, Some, codes, map, nat_lt}
 use Rattle.std.specs.Str.{bytes_eq}
-use Rattle.syn_term.specs.declared.sorts.Var.{Var}
 use Rattle.syn_term.specs.Tokens.{is_reserved}
 use Rattle.syn_form.specs.declared.syntax.HeadName.{HeadName}
 use Rattle.syn_form.specs.declared.syntax.HeadName.TheVariants as head
@@ -12,8 +11,6 @@ use Rattle.syn_form.specs.declared.syntax.FormSyntax.{FormSyntax, fold-FormSynta
 use Rattle.syn_form.specs.declared.syntax.FormSyntax.TheOpen.{FormSyntax-F}
 use Rattle.syn_form.specs.declared.syntax.OutSyntax.{OutSyntax, fold-OutSyntax}
 use Rattle.syn_form.specs.declared.syntax.OutSyntax.TheOpen.{OutSyntax-F}
-use Rattle.syn_form.specs.Elaboration.{var_named}
-use Rattle.syn_form.specs.Scopes.{TextScope}
 
 abbrev pub all_true : List Bool → Bool
 all_true [] = true
@@ -76,7 +73,3 @@ proper_out_step (OutSyntax-F.If f u v) = is_proper_form f && (u && v)
 -- the terms and tests are proper
 abbrev pub is_proper_out : OutSyntax → Bool
 is_proper_out = fold-OutSyntax Bool proper_out_step
-
--- no variable in scope has a reserved word as its name
-abbrev pub HasFreeNames : TextScope → Type 0
-HasFreeNames scope = (x : List ℕ) (v : Var) → var_named scope.names x ≡ Some v → is_reserved x ≡ false

@@ -4,37 +4,21 @@
 #![tactic(auto)]
 
 mod accepting;
-mod binding;
 mod elaborate_form;
 mod elaborate_out;
 mod elaborate_term;
 mod error;
-#[cfg(test)]
-mod examples;
-mod form_frames;
 mod form_parts;
-mod form_reader;
-mod item_reader;
-mod items;
-mod lexemes;
 mod limits;
 mod lookups;
-mod marks;
 mod names;
-mod out_reader;
-#[cfg(test)]
-mod out_samples;
 mod print_forms;
 mod print_outs;
 mod print_qforms;
 mod print_terms;
 mod read;
-#[cfg(test)]
-mod reading_tests;
 mod scope;
 mod sorts;
-mod stack;
-mod syntaxes;
 mod text;
 mod unquantified;
 mod vars;

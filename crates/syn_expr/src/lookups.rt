@@ -1,5 +1,5 @@
 // What the names in a text stand for: the variables, symbols and sorts that a place knows.
-ghost use Rattle.std.specs.Prelude.{◌≡◌, ◌&&◌, codes, false, not, position};
+ghost use Rattle.std.specs.Prelude.{◌≡◌, ◌&&◌, None, codes, false, if◌then◌else◌, not, position};
 ghost use Rattle.std.specs.List.{list_any};
 ghost use Rattle.std.specs.Option.{option_map};
 ghost use Rattle.std.specs.Str.{bytes_eq};
@@ -90,12 +90,23 @@ pub(crate) fn head_symbol(place: &Inside, head: &HeadName) -> Option<SymId>
     }
 }
 
-/// The variable that a head names.
+/// The variable that a name which is a head names.
+fn name_var(place: &Inside, name: &str) -> Option<Var>
+    ensures { result ≡ (if words.is_reserved name.now then None else elaboration.var_named (names_at place.now.names) name.now) }
+{
+    if is_word(name) {
+        None
+    } else {
+        var_named(&place.names, name)
+    }
+}
+
+/// The variable that a head names; a reserved word names none.
 pub(crate) fn head_var(place: &Inside, head: &HeadName) -> Option<Var>
     ensures { result ≡ elaboration.head_var (spoken_at place.now) head.now }
 {
     match head {
-        HeadName::Name(name) => var_named(&place.names, name.as_str()),
+        HeadName::Name(name) => name_var(place, name.as_str()),
         HeadName::Skolem(_) => None,
     }
 }

@@ -7,25 +7,24 @@ ghost use Rattle.syn_form.specs.Texts.{IsFormOf, IsOutOf, IsQFormOf, IsTermOf, I
 ghost use Rattle.syn_form.specs.Trees.{bare_form, bare_out};
 ghost use Rattle.syn_expr.specs.Accepting.{limit_of};
 ghost use Rattle.syn_expr.specs.Belonging.{FormBelongs, OutBelongs, QFormBelongs};
-ghost use Rattle.syn_expr.specs.Proper.{HasFreeNames};
 ghost use Rattle.syn_expr.specs.Reading.{OneAtMost, Reads};
 ghost use Rattle.syn_expr.specs.Scopes.{spoken};
 
 use crate::accepting::{taken_form, taken_out, taken_qform, taken_term};
 use crate::error::ExprError;
 use crate::scope::Scope;
-use crate::syntaxes::{form_syntax, out_syntax, term_syntax};
 use std::alloc::Global;
 use syn_form::{Form, Out, QForm};
+use syn_parse::{parse_form, parse_out, parse_term};
 use syn_term::{Bank, Term};
 
 #[tactic(auto, using(crate::proofs::Growth::growth))]
 fn term_of(alloc: Global, bank: &mut Bank, scope: &Scope, text: &str) -> Result<Term, ExprError>
-    ensures answer { HasFreeNames (spoken scope.now) → Reads bare (IsTextOf (IsTermOf expression_limit (spoken scope.now)) text.now) result }
+    ensures answer { Reads bare (IsTextOf (IsTermOf expression_limit (spoken scope.now)) text.now) result }
     ensures extends { Extends bank.old bank.new }
     ensures belongs { IfOk result (Belongs bank.new) }
 {
-    let Some(syntax) = term_syntax(alloc, text)? else {
+    let Some(syntax) = parse_term(alloc, text)? else {
         return Err(ExprError::Refused);
     };
     match taken_term(alloc, bank, scope, &syntax, 4_096, 1_200)? {
@@ -36,11 +35,11 @@ fn term_of(alloc: Global, bank: &mut Bank, scope: &Scope, text: &str) -> Result<
 
 #[tactic(auto, using(crate::proofs::Growth::growth))]
 fn form_of(alloc: Global, bank: &mut Bank, scope: &Scope, text: &str) -> Result<Form, ExprError>
-    ensures answer { HasFreeNames (spoken scope.now) → Reads bare_form (IsTextOf (IsFormOf expression_limit (spoken scope.now)) text.now) result }
+    ensures answer { Reads bare_form (IsTextOf (IsFormOf expression_limit (spoken scope.now)) text.now) result }
     ensures extends { Extends bank.old bank.new }
     ensures belongs { IfOk result (FormBelongs bank.new) }
 {
-    let Some(syntax) = form_syntax(alloc, text)? else {
+    let Some(syntax) = parse_form(alloc, text)? else {
         return Err(ExprError::Refused);
     };
     match taken_form(alloc, bank, scope, &syntax, 4_096, 1_200)? {
@@ -51,11 +50,11 @@ fn form_of(alloc: Global, bank: &mut Bank, scope: &Scope, text: &str) -> Result<
 
 #[tactic(auto, using(crate::proofs::Growth::growth))]
 fn qform_of(alloc: Global, bank: &mut Bank, scope: &Scope, text: &str) -> Result<QForm, ExprError>
-    ensures answer { HasFreeNames (spoken scope.now) → Reads bare_qform (IsTextOf (IsQFormOf expression_limit (spoken scope.now)) text.now) result }
+    ensures answer { Reads bare_qform (IsTextOf (IsQFormOf expression_limit (spoken scope.now)) text.now) result }
     ensures extends { Extends bank.old bank.new }
     ensures belongs { IfOk result (QFormBelongs bank.new) }
 {
-    let Some(syntax) = form_syntax(alloc, text)? else {
+    let Some(syntax) = parse_form(alloc, text)? else {
         return Err(ExprError::Refused);
     };
     match taken_qform(alloc, bank, scope, &syntax, 4_096, 1_200)? {
@@ -75,11 +74,11 @@ fn out_of(
     depth: u32,
 ) -> Result<Out, ExprError>
     requires { depth ≤ 1264 }
-    ensures answer { HasFreeNames (spoken scope.now) → Reads bare_out (IsTextOf (IsOutOf (limit_of nodes depth) (spoken scope.now)) text.now) result }
+    ensures answer { Reads bare_out (IsTextOf (IsOutOf (limit_of nodes depth) (spoken scope.now)) text.now) result }
     ensures extends { Extends bank.old bank.new }
     ensures belongs { IfOk result (OutBelongs bank.new) }
 {
-    let Some(syntax) = out_syntax(alloc, text)? else {
+    let Some(syntax) = parse_out(alloc, text)? else {
         return Err(ExprError::Refused);
     };
     match taken_out(alloc, bank, scope, &syntax, nodes, depth)? {
@@ -96,8 +95,8 @@ pub fn read_term(
     scope: &Scope,
     text: &str,
 ) -> Result<Term, ExprError>
-    ensures answer { HasFreeNames (spoken scope.now) → Reads bare (IsTextOf (IsTermOf expression_limit (spoken scope.now)) text.now) result }
-    ensures one { HasFreeNames (spoken scope.now) → OneAtMost (IsTextOf (IsTermOf expression_limit (spoken scope.now)) text.now) }
+    ensures answer { Reads bare (IsTextOf (IsTermOf expression_limit (spoken scope.now)) text.now) result }
+    ensures one { OneAtMost (IsTextOf (IsTermOf expression_limit (spoken scope.now)) text.now) }
     ensures extends { Extends bank.old bank.new }
     ensures belongs { IfOk result (Belongs bank.new) }
 {
@@ -112,8 +111,8 @@ pub fn read_form(
     scope: &Scope,
     text: &str,
 ) -> Result<Form, ExprError>
-    ensures answer { HasFreeNames (spoken scope.now) → Reads bare_form (IsTextOf (IsFormOf expression_limit (spoken scope.now)) text.now) result }
-    ensures one { HasFreeNames (spoken scope.now) → OneAtMost (IsTextOf (IsFormOf expression_limit (spoken scope.now)) text.now) }
+    ensures answer { Reads bare_form (IsTextOf (IsFormOf expression_limit (spoken scope.now)) text.now) result }
+    ensures one { OneAtMost (IsTextOf (IsFormOf expression_limit (spoken scope.now)) text.now) }
     ensures extends { Extends bank.old bank.new }
     ensures belongs { IfOk result (FormBelongs bank.new) }
 {
@@ -128,8 +127,8 @@ pub fn read_qform(
     scope: &Scope,
     text: &str,
 ) -> Result<QForm, ExprError>
-    ensures answer { HasFreeNames (spoken scope.now) → Reads bare_qform (IsTextOf (IsQFormOf expression_limit (spoken scope.now)) text.now) result }
-    ensures one { HasFreeNames (spoken scope.now) → OneAtMost (IsTextOf (IsQFormOf expression_limit (spoken scope.now)) text.now) }
+    ensures answer { Reads bare_qform (IsTextOf (IsQFormOf expression_limit (spoken scope.now)) text.now) result }
+    ensures one { OneAtMost (IsTextOf (IsQFormOf expression_limit (spoken scope.now)) text.now) }
     ensures extends { Extends bank.old bank.new }
     ensures belongs { IfOk result (QFormBelongs bank.new) }
 {
@@ -139,8 +138,8 @@ pub fn read_qform(
 /// The output that the text stands for in the scope, made by the bank, of at most 4,096 nodes and at
 /// most 1,200 deep. `Refused`: there is none.
 pub fn read_out(alloc: Global, bank: &mut Bank, scope: &Scope, text: &str) -> Result<Out, ExprError>
-    ensures answer { HasFreeNames (spoken scope.now) → Reads bare_out (IsTextOf (IsOutOf expression_limit (spoken scope.now)) text.now) result }
-    ensures one { HasFreeNames (spoken scope.now) → OneAtMost (IsTextOf (IsOutOf expression_limit (spoken scope.now)) text.now) }
+    ensures answer { Reads bare_out (IsTextOf (IsOutOf expression_limit (spoken scope.now)) text.now) result }
+    ensures one { OneAtMost (IsTextOf (IsOutOf expression_limit (spoken scope.now)) text.now) }
     ensures extends { Extends bank.old bank.new }
     ensures belongs { IfOk result (OutBelongs bank.new) }
 {
@@ -154,8 +153,8 @@ pub fn read_body(
     scope: &Scope,
     text: &str,
 ) -> Result<Out, ExprError>
-    ensures answer { HasFreeNames (spoken scope.now) → Reads bare_out (IsTextOf (IsOutOf body_limit (spoken scope.now)) text.now) result }
-    ensures one { HasFreeNames (spoken scope.now) → OneAtMost (IsTextOf (IsOutOf body_limit (spoken scope.now)) text.now) }
+    ensures answer { Reads bare_out (IsTextOf (IsOutOf body_limit (spoken scope.now)) text.now) result }
+    ensures one { OneAtMost (IsTextOf (IsOutOf body_limit (spoken scope.now)) text.now) }
     ensures extends { Extends bank.old bank.new }
     ensures belongs { IfOk result (OutBelongs bank.new) }
 {

@@ -10,6 +10,10 @@ mod derivations;
 #[cfg(test)]
 mod outside;
 #[cfg(test)]
+mod printed;
+#[cfg(test)]
+mod read;
+#[cfg(test)]
 mod specifications;
 #[cfg(test)]
 mod statuses;

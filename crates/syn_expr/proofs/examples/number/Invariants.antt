@@ -1,6 +1,0 @@
-use Rattle.syn_term.specs.Bank.{Belongs}
-use Rattle.syn_expr.proofs.examples.number.Given as goal
-
--- the term made so far is the bank's
-abbrev pub invariant-loop : goal.invariant-loop
-invariant-loop l = Belongs l.bank l.t

@@ -1,0 +1,10 @@
+pub mod Items
+pub mod Heights
+pub mod FormMachine
+pub mod BindingMachine
+pub mod ItemMachine
+pub mod Lexemes
+pub mod OutMachine
+pub mod Written
+pub mod Passes
+pub mod Parsing

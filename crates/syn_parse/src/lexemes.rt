@@ -1,0 +1,145 @@
+// A text as lexemes: its tokens, with marks told from names, and with the numbers and sorts that
+// they hold. A text is written by one list of lexemes at most.
+ghost use Rattle.std.specs.Prelude.{◌≡◌, ◌++◌, [], List, IfOk, MatchOption, All, codes};
+ghost use Rattle.syn_term.specs.declared.tokens.TokenKind.TheVariants as kind;
+ghost use Rattle.syn_term.specs.Tokens.{IsToken, IsRowVariable};
+ghost use Rattle.syn_lex.specs.Lexing.{IsWhole, bytes_of, words_of, word_of};
+ghost use Rattle.syn_form.specs.declared.syntax.Lexeme.{Lexeme};
+ghost use Rattle.syn_parse.specs.Lexemes.{IsInside, IsWritten, NoLexeme, NoMark, NoNumber, Spell, Spells, row_word, word};
+
+use crate::marks::mark_of;
+use sqlite_items::Items;
+use std::alloc::Global;
+use syn_form::Lexeme;
+use syn_lex::{LexError, Token, TokenKind, tokens};
+use syn_term::{NoMemory, Text, decimal_number};
+
+fn number_lexeme(digits: &str) -> Option<Lexeme>
+    ensures { MatchOption result (NoNumber digits.now) (Spells (word kind.Number digits.now)) }
+{
+    match decimal_number(digits) {
+        None => None,
+        Some(number) => Some(Lexeme::Number(number)),
+    }
+}
+
+/// The row variable with these digits and no sort.
+fn bare_row(digits: &str) -> Option<Lexeme>
+    ensures { MatchOption result (NoNumber digits.now) (Spells (row_word digits.now [])) }
+{
+    match decimal_number(digits) {
+        None => None,
+        Some(number) => Some(Lexeme::RowVar(number, None)),
+    }
+}
+
+/// The row variable with these digits and this sort.
+fn sorted_row(alloc: Global, digits: &str, sort: &str) -> Result<Option<Lexeme>, NoMemory>
+    ensures { IfOk result (λ o. MatchOption o (NoNumber digits.now) (Spells (row_word digits.now (codes ":" ++ sort.now)))) }
+{
+    match decimal_number(digits) {
+        None => Ok(None),
+        Some(number) => Ok(Some(Lexeme::RowVar(number, Some(Text::from_str(alloc, sort)?)))),
+    }
+}
+
+/// The row variable behind its question mark.
+fn marked_row(alloc: Global, text: &str) -> Result<Option<Lexeme>, NoMemory>
+    requires { IsRowVariable (codes "?" ++ text.now) }
+    ensures { IfOk result (λ o. MatchOption o ⊥ (Spells (word kind.RowVar (codes "?" ++ text.now)))) }
+{
+    match text.split_once(':') {
+        None => Ok(bare_row(text)),
+        Some((digits, sort)) => sorted_row(alloc, digits, sort),
+    }
+}
+
+fn row_lexeme(alloc: Global, text: &str) -> Result<Option<Lexeme>, NoMemory>
+    requires { IsRowVariable text.now }
+    ensures { IfOk result (λ o. MatchOption o ⊥ (Spells (word kind.RowVar text.now))) }
+{
+    match text.strip_prefix('?') {
+        None => Ok(None),
+        Some(rest) => marked_row(alloc, rest),
+    }
+}
+
+/// The lexeme of a token that is no mark.
+fn plain_lexeme(alloc: Global, kind: TokenKind, text: &str) -> Result<Option<Lexeme>, NoMemory>
+    requires token { IsToken kind text.now }
+    requires no_mark { NoMark (word kind text.now) }
+    ensures { IfOk result (λ o. MatchOption o (NoLexeme (word kind text.now)) (Spells (word kind text.now))) }
+{
+    match kind {
+        TokenKind::Name => Ok(Some(Lexeme::Name(Text::from_str(alloc, text)?))),
+        TokenKind::Number => Ok(number_lexeme(text)),
+        TokenKind::RowVar => row_lexeme(alloc, text),
+        TokenKind::Skolem => Ok(Some(Lexeme::Skolem(Text::from_str(alloc, text)?))),
+        TokenKind::Sign => Ok(None),
+    }
+}
+
+/// The lexeme that a token is, by its kind and its bytes. None where it is a sign that expressions
+/// don't have, `|` or `-`. The one error is want of memory.
+pub(crate) fn lexeme_of(
+    alloc: Global,
+    kind: TokenKind,
+    bytes: &[u8],
+) -> Result<Option<Lexeme>, NoMemory>
+    requires { IsToken kind bytes.now }
+    ensures { IfOk result (λ o. MatchOption o (NoLexeme (word kind bytes.now)) (Spells (word kind bytes.now))) }
+{
+    if let Some(mark) = mark_of(kind, bytes) {
+        return Ok(Some(Lexeme::Fixed(mark)));
+    }
+    match str::from_utf8(bytes) {
+        Err(_) => Ok(None),
+        Ok(text) => plain_lexeme(alloc, kind, text),
+    }
+}
+
+/// The lexeme that a token of a line is.
+fn token_lexeme(alloc: Global, line: &[u8], token: Token) -> Result<Option<Lexeme>, NoMemory>
+    requires whole { IsToken token.kind (bytes_of line.now token) }
+    requires inside { IsInside line.now token }
+    ensures { IfOk result (λ o. MatchOption o (NoLexeme (word_of line.now token)) (Spells (word_of line.now token))) }
+{
+    lexeme_of(
+        alloc,
+        token.kind,
+        &line[token.from as usize..token.to as usize],
+    )
+}
+
+/// The lexemes that the tokens of a line are; None where one of them is no lexeme.
+fn lexemes_in(
+    alloc: Global,
+    line: &[u8],
+    found: &[Token],
+) -> Result<Option<Items<Lexeme>>, NoMemory>
+    requires whole { All (IsWhole line.now) found.now }
+    requires inside { All (IsInside line.now) found.now }
+    ensures { IfOk result (λ o. MatchOption o ((ls : List Lexeme) → Spell (words_of line.now found.now) ls → ⊥) (Spell (words_of line.now found.now))) }
+{
+    let mut lexemes = Items::new(alloc);
+    for token in found {
+        match token_lexeme(alloc, line, *token)? {
+            None => return Ok(None),
+            Some(lexeme) => lexemes.push(lexeme)?,
+        }
+    }
+    Ok(Some(lexemes))
+}
+
+/// The lexemes that the text is one line of; None where it is not a line of lexemes. The one error
+/// is want of memory.
+pub(crate) fn lexemes_of(alloc: Global, text: &str) -> Result<Option<Items<Lexeme>>, NoMemory>
+    ensures { IfOk result (λ o. MatchOption o ((ls : List Lexeme) → IsWritten text.now ls → ⊥) (IsWritten text.now)) }
+{
+    let line = text.as_bytes();
+    match tokens(alloc, line) {
+        Err(LexError::NoMemory) => Err(NoMemory),
+        Err(LexError::At(_)) => Ok(None),
+        Ok(found) => lexemes_in(alloc, line, found.as_slice()),
+    }
+}

@@ -1,0 +1,17 @@
+//! The syntax of expressions: a text as the syntax tree of a term, a formula or an output. What the
+//! names in it stand for is not looked at.
+#![tactic(auto)]
+
+mod binding;
+mod form_frames;
+mod form_reader;
+mod item_reader;
+mod items;
+mod lexemes;
+mod marks;
+mod out_reader;
+mod parse;
+mod stack;
+mod syntaxes;
+
+pub use parse::{parse_form, parse_out, parse_term};
