@@ -30,7 +30,7 @@ use Rattle.syn_form.specs.declared.trees.QForm.TheViews as qview
 use Rattle.syn_form.specs.Trees.{FormTree, QFormTree, OutTree}
 use Rattle.syn_form.specs.Scopes.{TextScope}
 use Rattle.syn_form.specs.Printing.{in_scope_of, name_for, name_of, sort_text}
-use Rattle.syn_form.specs.Readable.{symbol_head}
+use Rattle.syn_expr.specs.Readable.{symbol_head}
 use Rattle.syn_form.specs.Grammar.{UnaryText, ConjText, DisjText, ImpText, FormText, OutText, truth, falsity, atom, equality, no, bracket, one_unary, and_also, one_conj, or_also, one_disj, implies, one_imp, quantified, give, choice}
 
 -- the syntax tree of a term, and the number that it is, where it is one

@@ -7,3 +7,4 @@ pub mod Proper
 pub mod Belonging
 pub mod Accepting
 pub mod Reading
+pub mod Readable

@@ -1,5 +1,7 @@
--- What the readers of texts answer.
-use Rattle.std.specs.Prelude.{◌≡◌, Result, Ok, Err}
+-- What readers and printers answer.
+use Rattle.std.specs.Prelude.{◌≡◌, ℕ, List, Result, Ok, Err}
+use Rattle.syn_term.specs.Tokens.{Word}
+use Rattle.syn_form.specs.Texts.{IsTextOf, Limit}
 use Rattle.syn_expr.specs.declared.error.ExprError.{ExprError}
 use Rattle.syn_expr.specs.declared.error.ExprError.TheVariants as error
 
@@ -12,3 +14,7 @@ Reads bare Stands (Err error.NoMemory) = Unit {0}
 -- at most one tree stands for the text
 abbrev pub OneAtMost : {T : Type 0} → (T → Type 0) → Type 0
 OneAtMost {T} Stands = (t u : T) → Stands t → Stands u → t ≡ u
+
+-- within each limit, where the tree can be read the text stands for it
+abbrev pub ReadsBack : {T : Type 0} → (T → T) → (Limit → List Word → T → Type 0) → (Limit → T → Type 0) → List ℕ → T → Type 0
+ReadsBack bare Stands Readable text t = (limit : Limit) → Readable limit t → IsTextOf (Stands limit) text (bare t)

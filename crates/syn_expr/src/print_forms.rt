@@ -3,7 +3,11 @@
 ghost use Rattle.std.specs.Prelude.{◌≡◌, ◌++◌, codes, map, string_bytes, IfOk, OnOk};
 ghost use Rattle.syn_term.specs.Symbols.{symbol_at};
 ghost use Rattle.syn_form.specs.Printing.{atom_text, equality_text, inner, joined, printed_form, printing_of_form};
+ghost use Rattle.syn_expr.specs.Readable.{IsReadableForm};
+ghost use Rattle.syn_form.specs.Texts.{IsFormOf};
+ghost use Rattle.syn_form.specs.Trees.{bare_form};
 ghost use Rattle.syn_expr.specs.Places.{spoken_at};
+ghost use Rattle.syn_expr.specs.Reading.{ReadsBack};
 ghost use Rattle.syn_expr.specs.Scopes.{spoken};
 
 use crate::names::{Inside, outside, symbol_name};
@@ -30,8 +34,17 @@ pub(crate) const OPEN: &str = "(";
 
 pub(crate) const CLOSE: &str = ")";
 
-/// The one text of the formula. The one error is want of memory.
+/// The one text of the formula. A plain formula within a limit that the scope can read, printed, reads
+/// back. The one error is want of memory.
 pub fn print_form(alloc: Global, scope: &Scope, f: &Form) -> Result<String, NoMemory>
+    ensures text { IfOk result (λ text. string_bytes text ≡ printed_form (spoken scope.now) f.now) }
+    ensures reads_back { IfOk result (λ text. ReadsBack bare_form (λ l. IsFormOf l (spoken scope.now)) (λ l. IsReadableForm l (spoken scope.now)) (string_bytes text) f.now) }
+{
+    form_text(alloc, scope, f)
+}
+
+/// The text of the formula. The one error is want of memory.
+fn form_text(alloc: Global, scope: &Scope, f: &Form) -> Result<String, NoMemory>
     ensures { IfOk result (λ text. string_bytes text ≡ printed_form (spoken scope.now) f.now) }
 {
     let mut out = String::new(alloc);

@@ -1,7 +1,11 @@
 // The printer of outputs: a term, or a choice by a test.
 ghost use Rattle.std.specs.Prelude.{◌≡◌, ◌++◌, string_bytes, IfOk, OnOk};
 ghost use Rattle.syn_form.specs.Printing.{printed_out};
+ghost use Rattle.syn_expr.specs.Readable.{IsReadableOut};
+ghost use Rattle.syn_form.specs.Texts.{IsOutOf};
+ghost use Rattle.syn_form.specs.Trees.{bare_out};
 ghost use Rattle.syn_expr.specs.Places.{spoken_at};
+ghost use Rattle.syn_expr.specs.Reading.{ReadsBack};
 ghost use Rattle.syn_expr.specs.Scopes.{spoken};
 
 use crate::names::{Inside, outside};
@@ -13,8 +17,17 @@ use std::alloc::Global;
 use syn_form::Out;
 use syn_term::NoMemory;
 
-/// The one text of the output. The one error is want of memory.
+/// The one text of the output. A plain output within a limit that the scope can read, printed, reads
+/// back. The one error is want of memory.
 pub fn print_out(alloc: Global, scope: &Scope, o: &Out) -> Result<String, NoMemory>
+    ensures text { IfOk result (λ text. string_bytes text ≡ printed_out (spoken scope.now) o.now) }
+    ensures reads_back { IfOk result (λ text. ReadsBack bare_out (λ l. IsOutOf l (spoken scope.now)) (λ l. IsReadableOut l (spoken scope.now)) (string_bytes text) o.now) }
+{
+    out_text(alloc, scope, o)
+}
+
+/// The text of the output. The one error is want of memory.
+fn out_text(alloc: Global, scope: &Scope, o: &Out) -> Result<String, NoMemory>
     ensures { IfOk result (λ text. string_bytes text ≡ printed_out (spoken scope.now) o.now) }
 {
     let mut out = String::new(alloc);

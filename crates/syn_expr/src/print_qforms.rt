@@ -2,7 +2,11 @@
 // too, and inside a quantifier its variable is printed by the name that the quantifier gives it.
 ghost use Rattle.std.specs.Prelude.{◌≡◌, ◌++◌, map, string_bytes, IfOk, OnOk};
 ghost use Rattle.syn_form.specs.Printing.{inner, joined, printed_qform, printing_of_qform};
+ghost use Rattle.syn_expr.specs.Readable.{IsReadableQForm};
+ghost use Rattle.syn_form.specs.Texts.{IsQFormOf};
+ghost use Rattle.syn_form.specs.Quantified.{bare_qform};
 ghost use Rattle.syn_expr.specs.Places.{binder_text, spoken_at};
+ghost use Rattle.syn_expr.specs.Reading.{ReadsBack};
 ghost use Rattle.syn_expr.specs.Scopes.{spoken};
 
 use crate::names::{Inside, outside, sort_name, within};
@@ -13,8 +17,17 @@ use std::alloc::Global;
 use syn_form::{Binder, QForm};
 use syn_term::NoMemory;
 
-/// The one text of the formula. The one error is want of memory.
+/// The one text of the formula. A plain formula within a limit that the scope can read, printed, reads
+/// back. The one error is want of memory.
 pub fn print_qform(alloc: Global, scope: &Scope, f: &QForm) -> Result<String, NoMemory>
+    ensures text { IfOk result (λ text. string_bytes text ≡ printed_qform (spoken scope.now) f.now) }
+    ensures reads_back { IfOk result (λ text. ReadsBack bare_qform (λ l. IsQFormOf l (spoken scope.now)) (λ l. IsReadableQForm l (spoken scope.now)) (string_bytes text) f.now) }
+{
+    qform_text(alloc, scope, f)
+}
+
+/// The text of the formula. The one error is want of memory.
+fn qform_text(alloc: Global, scope: &Scope, f: &QForm) -> Result<String, NoMemory>
     ensures { IfOk result (λ text. string_bytes text ≡ printed_qform (spoken scope.now) f.now) }
 {
     let mut out = String::new(alloc);

@@ -2,7 +2,11 @@
 // the name of its symbol with the arguments' texts, or its variable.
 ghost use Rattle.std.specs.Prelude.{◌≡◌, ◌++◌, string_bytes, if◌then◌else◌, nat_lt, Option, ℕ, Some, None, IfOk, OnOk};
 ghost use Rattle.syn_form.specs.Printing.{printed_term, printing_of, row_text, var_text};
+ghost use Rattle.syn_expr.specs.Readable.{IsReadableTerm};
+ghost use Rattle.syn_form.specs.Texts.{IsTermOf};
+ghost use Rattle.syn_term.specs.Terms.{bare};
 ghost use Rattle.syn_expr.specs.Places.{arguments_text, next_number, spoken_at};
+ghost use Rattle.syn_expr.specs.Reading.{ReadsBack};
 ghost use Rattle.syn_expr.specs.Scopes.{spoken};
 
 use crate::names::{Inside, name_for, outside, sort_name, symbol_kind, symbol_name};
@@ -11,8 +15,17 @@ use crate::text::{put, put_number, separator};
 use std::alloc::Global;
 use syn_term::{Kind, NoMemory, Node, Sort, Symbols, Term, Var};
 
-/// The one text of the term. The one error is want of memory.
+/// The one text of the term. A plain term within a limit that the scope can read, printed, reads
+/// back. The one error is want of memory.
 pub fn print_term(alloc: Global, scope: &Scope, t: &Term) -> Result<String, NoMemory>
+    ensures text { IfOk result (λ text. string_bytes text ≡ printed_term (spoken scope.now) t.now) }
+    ensures reads_back { IfOk result (λ text. ReadsBack bare (λ l. IsTermOf l (spoken scope.now)) (λ l. IsReadableTerm l (spoken scope.now)) (string_bytes text) t.now) }
+{
+    term_text(alloc, scope, t)
+}
+
+/// The text of the term. The one error is want of memory.
+fn term_text(alloc: Global, scope: &Scope, t: &Term) -> Result<String, NoMemory>
     ensures { IfOk result (λ text. string_bytes text ≡ printed_term (spoken scope.now) t.now) }
 {
     let mut out = String::new(alloc);

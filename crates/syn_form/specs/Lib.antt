@@ -15,5 +15,4 @@ pub mod Lists
 pub mod Quantified
 pub mod Elaboration
 pub mod Texts
-pub mod Readable
 pub mod Joining

@@ -1,0 +1,7 @@
+use Rattle.std.proofs.Common.{ℕ, List, sym, subst}
+use Rattle.syn_expr.specs.Readable.{IsReadableOut}
+use Rattle.syn_form.specs.Texts.{IsOutOf, IsTextOf}
+use Rattle.syn_form.specs.Trees.{bare_out}
+use Rattle.syn_expr.specs.Scopes.{spoken}
+use Rattle.syn_expr.proofs.ReadsBack.{out_reads_back}
+use Rattle.syn_expr.proofs.print_outs.print_out.Goals as goal
