@@ -5,3 +5,6 @@ use Rattle.syn_form.specs.Trees.{bare_form}
 use Rattle.syn_expr.specs.Scopes.{spoken}
 use Rattle.syn_expr.proofs.ReadsBack.{form_reads_back}
 use Rattle.syn_expr.proofs.print_forms.print_form.Goals as goal
+
+pub returns-clause-reads_back : goal.returns-clause-reads_back
+returns-clause-reads_back c = λ limit r. subst (λ (z : List ℕ). IsTextOf (IsFormOf limit (spoken c.args.scope.now)) z (bare_form c.args.f.now)) (sym _) (form_reads_back limit (spoken c.args.scope.now) c.args.f.now r)

@@ -5,3 +5,6 @@ use Rattle.syn_form.specs.Trees.{bare_out}
 use Rattle.syn_expr.specs.Scopes.{spoken}
 use Rattle.syn_expr.proofs.ReadsBack.{out_reads_back}
 use Rattle.syn_expr.proofs.print_outs.print_out.Goals as goal
+
+pub returns-clause-reads_back : goal.returns-clause-reads_back
+returns-clause-reads_back c = λ limit r. subst (λ (z : List ℕ). IsTextOf (IsOutOf limit (spoken c.args.scope.now)) z (bare_out c.args.o.now)) (sym _) (out_reads_back limit (spoken c.args.scope.now) c.args.o.now r)

@@ -5,3 +5,6 @@ use Rattle.syn_term.specs.Terms.{bare}
 use Rattle.syn_expr.specs.Scopes.{spoken}
 use Rattle.syn_expr.proofs.ReadsBack.{term_reads_back}
 use Rattle.syn_expr.proofs.print_terms.print_term.Goals as goal
+
+pub returns-clause-reads_back : goal.returns-clause-reads_back
+returns-clause-reads_back c = λ limit r. subst (λ (z : List ℕ). IsTextOf (IsTermOf limit (spoken c.args.scope.now)) z (bare c.args.t.now)) (sym _) (term_reads_back limit (spoken c.args.scope.now) c.args.t.now r)
