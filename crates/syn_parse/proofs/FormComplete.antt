@@ -16,10 +16,10 @@ use Rattle.syn_parse.specs.declared.form_frames.Tall.{Tall}
 use Rattle.syn_parse.specs.declared.form_frames.Bound.{Bound}
 use Rattle.syn_parse.specs.declared.form_reader.FormReader.{FormReader}
 use Rattle.syn_parse.specs.Items.{items_of_unary, items_of_conj, items_of_disj, items_of_imp, items_of_form}
-use Rattle.syn_parse.specs.Heights.{height_of, Low, max_height}
-use Rattle.syn_parse.specs.FormMachine.{run, step, start, finished, ended, parsed, wants, has, fresh, got, leaf, atom_of, atom_layer, term_next, form_done}
-use Rattle.syn_parse.proofs.FormLevels.{height-True, height-False, height-Atom, height-Equal, height-Not, height-And, height-Or, height-Implies, height-BothWays, height-Quantified, highest_last, tall, bounded, bounded-low, no_times, no_times_low, conj_with, disj_with, imp_onto, form_with, bound_onto, Held, conj_of, disj_of, imp_of, form_of, frame_of, form_done-is}
-use Rattle.syn_parse.proofs.FormSteps.{Place, held_by, place, place_frame, Ghost, wanting, having, seen, leaf-is, got-is, and_place, or_place, arrow_place, both_place, or_on, arrow_on, both_on, or_on-is, arrow_on-is, and-is, or-is, arrow-is, both-is, close-is}
+use Rattle.syn_parse.specs.Heights.{height_of, Low}
+use Rattle.syn_parse.specs.FormMachine.{run, start, finished, ended, parsed, wants, has, fresh, got, leaf, atom_of, atom_layer}
+use Rattle.syn_parse.proofs.FormLevels.{height-True, height-False, height-Atom, height-Equal, height-And, height-Or, height-Implies, height-BothWays, height-Quantified, highest_last, tall, bounded, bounded-low, no_times, no_times_low, conj_with, disj_with, imp_onto, bound_onto, Held, conj_of, disj_of, imp_of, form_of, frame_of, form_done-is}
+use Rattle.syn_parse.proofs.FormSteps.{Place, held_by, place, place_frame, wanting, having, seen, leaf-is, got-is, and_place, or_place, or_on, arrow_on, both_on, or_on-is, arrow_on-is, and-is, or-is, arrow-is, both-is, close-is}
 
 -- a chain without its last member, and that member
 abbrev pub earlier_conj : ConjText → Option ConjText

@@ -1,10 +1,8 @@
 -- What a text gives, pass by pass.
-use Rattle.std.proofs.Common.{◌≡◌, ℕ, List, Option, None, Some, All, IfSome, map, refl, sym, ◌∙◌, ap, subst}
+use Rattle.std.proofs.Common.{◌≡◌, ℕ, List, Option, None, Some, IfSome, sym, ◌∙◌, ap}
 use Rattle.std.specs.Option.{option_and_then}
-use Rattle.syn_term.specs.Tokens.{Spelled}
 use Rattle.syn_form.specs.declared.syntax.Lexeme.{Lexeme}
-use Rattle.syn_form.specs.Grammar.{spelling}
-use Rattle.syn_parse.specs.Lexemes.{IsCanonical, IsWritten}
+use Rattle.syn_parse.specs.Lexemes.{IsWritten}
 use Rattle.syn_parse.specs.Passes.{Gives}
 use Rattle.syn_parse.proofs.LexemeLaws.{one_writing}
 

@@ -24,5 +24,7 @@ mod PieceRuns
 mod ItemRuns
 mod ItemComplete
 mod ItemExact
+mod ItemsWritten
+mod ReadingsWritten
 pub mod Gives
 pub mod Parses

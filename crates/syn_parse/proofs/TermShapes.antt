@@ -1,5 +1,5 @@
 -- The functions of terms as they are written, case by case, and the induction on these terms.
-use Rattle.std.proofs.Common.{◌≡◌, ℕ, ◌+◌, ◌≤◌, Bool, List, [], ◌∷◌, map, Option, subst, rules, arith}
+use Rattle.std.proofs.Common.{◌≡◌, ℕ, ◌+◌, ◌≤◌, Bool, true, List, [], ◌∷◌, map, Option, subst, rules, arith}
 use denote.Hole.Carrier.{roll}
 use Rattle.syn_term.specs.Terms.{greatest}
 use Rattle.syn_form.specs.declared.syntax.Lexeme.{Lexeme}
@@ -37,6 +37,18 @@ pub has_args-Applied : (h : HeadName) (args : List TermSyntax) → has_args (vie
 unfolding roll-TermSyntax roll
 has_args-Applied h args = fold-roll-TermSyntax Bool has_args_step (TermSyntax-F.Applied h args)
 
+pub has_args-Number : (k : ℕ) → has_args (term.Number k) ≡ true
+unfolding roll-TermSyntax roll
+has_args-Number k = fold-roll-TermSyntax Bool has_args_step (TermSyntax-F.Number k)
+
+pub has_args-RowVar : (k : ℕ) (s : Option (List ℕ)) → has_args (term.RowVar k s) ≡ true
+unfolding roll-TermSyntax roll
+has_args-RowVar k s = fold-roll-TermSyntax Bool has_args_step (TermSyntax-F.RowVar k s)
+
+pub has_args-Alone : (h : HeadName) → has_args (term.Alone h) ≡ true
+unfolding roll-TermSyntax roll
+has_args-Alone h = fold-roll-TermSyntax Bool has_args_step (TermSyntax-F.Alone h)
+
 pub out-Alone : (h : HeadName) → out-TermSyntax (term.Alone h) ≡ TermSyntax-F.Alone h
 out-Alone h = search (rules, the_lemmas)
 
@@ -69,15 +81,15 @@ module _ (P : TermSyntax → Type 0) where
     pub by_terms : (t : TermSyntax) → P t
     by_terms = ind-TermSyntax P (λ x y is. subst (λ (z : TermSyntax-F TermSyntax). P (roll-TermSyntax z)) is (term_step y))
 
-height-Number : (k : ℕ) → term_height (term.Number k) ≡ 1
+pub height-Number : (k : ℕ) → term_height (term.Number k) ≡ 1
 unfolding roll-TermSyntax roll
 height-Number k = fold-roll-TermSyntax ℕ term_height_step (TermSyntax-F.Number k)
 
-height-RowVar : (k : ℕ) (s : Option (List ℕ)) → term_height (term.RowVar k s) ≡ 1
+pub height-RowVar : (k : ℕ) (s : Option (List ℕ)) → term_height (term.RowVar k s) ≡ 1
 unfolding roll-TermSyntax roll
 height-RowVar k s = fold-roll-TermSyntax ℕ term_height_step (TermSyntax-F.RowVar k s)
 
-height-Alone : (h : HeadName) → term_height (term.Alone h) ≡ 1
+pub height-Alone : (h : HeadName) → term_height (term.Alone h) ≡ 1
 unfolding roll-TermSyntax roll
 height-Alone h = fold-roll-TermSyntax ℕ term_height_step (TermSyntax-F.Alone h)
 
