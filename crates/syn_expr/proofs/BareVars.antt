@@ -6,8 +6,6 @@ use Rattle.std.proofs.lemmas.List.Elements.{All-head, All-tail}
 use Rattle.syn_term.specs.declared.sorts.Var.{Var}
 use Rattle.syn_term.specs.Terms.{TermTree, bare}
 use Rattle.syn_term.proofs.Trees.{fold-bare}
-use Rattle.syn_form.specs.declared.trees.Form.TheViews as view
-use Rattle.syn_form.specs.declared.trees.QForm.TheViews as qview
 use Rattle.syn_form.specs.Trees.{FormTree, OutTree, QFormTree, all_of, bare_form, bare_out, form_terms, form_vars, out_terms, out_vars, term_vars, term_vars_step}
 use Rattle.syn_form.specs.Quantified.{bare_qform, bare_qform_step, qform_vars, qform_vars_step}
 use Rattle.syn_form.proofs.Equations.{bare_form-True, bare_form-False, bare_form-Atom, bare_form-Equal, bare_form-Not, bare_form-And, bare_form-Or, bare_form-Implies, bare_out-Give, bare_out-If, form_terms-True, form_terms-False, form_terms-Atom, form_terms-Equal, form_terms-Not, form_terms-And, form_terms-Or, form_terms-Implies, out_terms-Give, out_terms-If}

@@ -1,13 +1,11 @@
 -- What may stand for a tree of the depth 1,264 at most is read: none of its names is a mark, brackets have arguments, and nothing is
 -- too high.
-use Rattle.std.proofs.Common.{◌≡◌, ℕ, ◌+◌, ◌≤◌, max, Bool, true, false, not, ◌&&◌, ◌||◌, List, [], ◌∷◌, ◌++◌, All, map, length, if◌then◌else◌, refl, sym, ◌∙◌, ap, subst, arith, true≢false}
+use Rattle.std.proofs.Common.{◌≡◌, ℕ, ◌≤◌, Bool, true, false, ◌&&◌, List, [], ◌∷◌, ◌++◌, All, map, if◌then◌else◌, refl, sym, ◌∙◌, ap, subst, arith, true≢false}
 use Rattle.std.specs.Prelude.{codes}
-use Rattle.std.specs.Str.{bytes_eq}
 use Rattle.std.proofs.lemmas.List.Elements.{All-nil, All-cons, All-head, All-tail, All-append}
-use Rattle.syn_term.specs.declared.tokens.TokenKind.{TokenKind}
 use Rattle.syn_term.specs.declared.tokens.TokenKind.TheVariants as kind
 use Rattle.syn_term.specs.Terms.{greatest}
-use Rattle.syn_term.specs.Tokens.{Word, is_reserved}
+use Rattle.syn_term.specs.Tokens.{Word}
 use Rattle.syn_form.specs.declared.syntax.Mark.{Mark}
 use Rattle.syn_form.specs.declared.syntax.Mark.TheVariants as mark
 use Rattle.syn_form.specs.declared.syntax.Lexeme.{Lexeme}
@@ -16,8 +14,7 @@ use Rattle.syn_form.specs.declared.syntax.HeadName.{HeadName}
 use Rattle.syn_form.specs.declared.syntax.HeadName.TheVariants as head
 use Rattle.syn_form.specs.declared.syntax.TermSyntax.{TermSyntax}
 use Rattle.syn_form.specs.declared.syntax.TermSyntax.TheVariants as term
-use Rattle.syn_form.specs.declared.syntax.TermSyntax.TheViews as term_view
-use Rattle.syn_form.specs.Grammar.{fixed, sign_word, name_word, mark_word, head_lexeme, with_commas, in_brackets, words_of_term, words_of_term_step, words_of_args}
+use Rattle.syn_form.specs.Grammar.{fixed, sign_word, name_word, head_lexeme, with_commas, in_brackets, words_of_term, words_of_term_step, words_of_args}
 use Rattle.syn_parse.specs.Lexemes.{IsCanonical}
 use Rattle.syn_expr.specs.Limits.{term_levels, term_levels_step}
 use Rattle.syn_expr.specs.Proper.{all_true, is_proper_head, is_proper_term, is_symbol_name, proper_applied, proper_term_step}

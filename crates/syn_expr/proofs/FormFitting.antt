@@ -1,13 +1,11 @@
 -- The same for formulas and outputs: what may stand for a tree of the depth 1,264 at most is read.
-use Rattle.std.proofs.Common.{◌≡◌, ℕ, ◌+◌, ◌≤◌, max, Bool, true, false, not, ◌&&◌, ◌||◌, List, [], ◌∷◌, ◌++◌, All, map, length, if◌then◌else◌, refl, sym, ◌∙◌, ap, subst, arith, true≢false}
+use Rattle.std.proofs.Common.{◌≡◌, ℕ, ◌≤◌, Bool, true, false, not, ◌&&◌, ◌||◌, List, [], ◌∷◌, ◌++◌, All, map, length, if◌then◌else◌, refl, sym, ◌∙◌, subst, arith, true≢false}
 use Rattle.std.specs.Prelude.{codes}
 use Rattle.std.specs.Str.{bytes_eq}
 use Rattle.std.proofs.lemmas.List.Elements.{All-nil, All-cons, All-head, All-tail, All-append}
 use Rattle.syn_term.specs.Terms.{greatest}
 use Rattle.syn_term.specs.Tokens.{is_reserved}
-use Rattle.syn_form.specs.declared.syntax.Mark.{Mark}
 use Rattle.syn_form.specs.declared.syntax.Mark.TheVariants as mark
-use Rattle.syn_form.specs.declared.syntax.Lexeme.{Lexeme}
 use Rattle.syn_form.specs.declared.syntax.Lexeme.TheVariants as lexeme
 use Rattle.syn_form.specs.declared.syntax.HeadName.TheVariants as head
 use Rattle.syn_form.specs.declared.syntax.TermSyntax.{TermSyntax}
@@ -18,12 +16,12 @@ use Rattle.syn_form.specs.declared.syntax.FormSyntax.{FormSyntax}
 use Rattle.syn_form.specs.declared.syntax.FormSyntax.TheVariants as form
 use Rattle.syn_form.specs.declared.syntax.OutSyntax.{OutSyntax}
 use Rattle.syn_form.specs.declared.syntax.FormSyntax.TheViews as view
-use Rattle.syn_form.specs.Grammar.{UnaryText, ConjText, DisjText, ImpText, FormText, OutText, truth, falsity, atom, equality, no, bracket, one_unary, and_also, one_conj, or_also, one_disj, implies, one_imp, both_ways, quantified, give, choice, fixed, quantifier_mark, sort_lexeme, with_commas, words_of_term, words_of_term_step, words_of_args, words_of_binder, words_of_quantifier, words_of_unary, words_of_conj, words_of_disj, words_of_imp, words_of_form, words_of_out, syntax_of_unary, syntax_of_conj, members_of_conj, syntax_of_disj, members_of_disj, syntax_of_imp, syntax_of_form, syntax_of_out}
+use Rattle.syn_form.specs.Grammar.{UnaryText, ConjText, DisjText, ImpText, FormText, OutText, truth, falsity, atom, equality, no, bracket, one_unary, and_also, one_conj, or_also, one_disj, implies, one_imp, both_ways, quantified, give, choice, fixed, quantifier_mark, sort_lexeme, with_commas, words_of_term, words_of_term_step, words_of_binder, words_of_quantifier, words_of_unary, words_of_conj, words_of_disj, words_of_imp, words_of_form, words_of_out, syntax_of_unary, syntax_of_conj, members_of_conj, syntax_of_disj, members_of_disj, syntax_of_imp, syntax_of_form, syntax_of_out}
 use Rattle.syn_parse.specs.Heights.{height_of, height_step, out_height, out_height_step}
 use Rattle.syn_parse.specs.Lexemes.{IsCanonical}
-use Rattle.syn_expr.specs.Limits.{term_levels, term_levels_step, form_levels, form_levels_step, out_levels, out_levels_step}
-use Rattle.syn_expr.specs.Proper.{all_true, are_proper_binders, is_proper_binder, is_proper_form, is_proper_out, is_proper_term, is_symbol_name, proper_applied, proper_atom, proper_form_step, proper_out_step, proper_term_step}
-use Rattle.syn_parse.specs.Written.{Written, WrittenUnary, WrittenConj, WrittenDisj, WrittenImp, WrittenForm, WrittenOut}
+use Rattle.syn_expr.specs.Limits.{term_levels_step, form_levels, form_levels_step, out_levels, out_levels_step}
+use Rattle.syn_expr.specs.Proper.{all_true, are_proper_binders, is_proper_binder, is_proper_form, is_proper_out, is_proper_term, proper_applied, proper_atom, proper_form_step, proper_out_step, proper_term_step}
+use Rattle.syn_parse.specs.Written.{WrittenUnary, WrittenConj, WrittenDisj, WrittenImp, WrittenForm, WrittenOut}
 use Rattle.syn_expr.proofs.Fitting.{canonical_name, front_all, last_all, commas_canonical, one_canonical, between_canonical, brackets_canonical, greatest_below, some_levels, term_fit}
 use Rattle.syn_expr.proofs.Sorting.{both_true}
 use Rattle.syn_expr.proofs.TermSyntaxes.{fold-Applied}

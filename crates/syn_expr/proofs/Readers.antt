@@ -1,5 +1,5 @@
 -- Terms, formulas and outputs: a tree stands for a text just where it is read.
-use Rattle.std.proofs.Common.{◌≡◌, ℕ, ◌≤◌, List, Option, None, Some, map, refl, sym, ◌∙◌, ap, subst, arith}
+use Rattle.std.proofs.Common.{◌≡◌, ℕ, ◌≤◌, List, Some, map, refl, sym, ◌∙◌, ap, subst, arith}
 use Rattle.syn_term.specs.Terms.{TermTree}
 use Rattle.syn_term.specs.Tokens.{Word, Spelled}
 use Rattle.syn_form.specs.declared.syntax.TermSyntax.{TermSyntax}
@@ -23,10 +23,10 @@ use Rattle.syn_expr.proofs.ProperTrees.{form_proper, out_proper, term_proper}
 use Rattle.syn_expr.proofs.Stands.{Reader}
 use Rattle.syn_expr.proofs.TermCounts.{step_there, term_depth_is}
 
-same_tree : {T : Type 0} (t u : T) → Some t ≡ Some u → t ≡ u
+pub same_tree : {T : Type 0} (t u : T) → Some t ≡ Some u → t ≡ u
 same_tree t u e = cc
 
-same_form : (t u : QFormTree) (m n : ℕ) → Some (both t m) ≡ Some (both u n) → t ≡ u
+pub same_form : (t u : QFormTree) (m n : ℕ) → Some (both t m) ≡ Some (both u n) → t ≡ u
 same_form t u m n e = let g : both t m ≡ both u n = cc in ap (λ (z : QFormTree × ℕ). z.0) g
 
 -- the spelling of a text by other words that are the same
@@ -41,11 +41,11 @@ out_syntax_is : (text : List ℕ) (w : OutText) → Spelled text (map spelling (
 out_syntax_is text w h f = record { reading = w; words = (f.1, h); written = f.0; tree = refl; low = f.2 }
 
 module _ (limit : Limit) (low : limit.depth ≤ 1264) (scope : TextScope) (text : List ℕ) where
-  term_put : (s : TermSyntax) (t : TermTree) → IsTermSyntaxOf text s → TakesTerm limit scope s t → IsTextOf (IsTermOf limit scope) text t
+  pub term_put : (s : TermSyntax) (t : TermTree) → IsTermSyntaxOf text s → TakesTerm limit scope s t → IsTextOf (IsTermOf limit scope) text t
   term_put s t is k =
       record { words = map spelling (words_of_term s); spelled = is.words.1; stands = record { syntax = s; written = refl; tree = k.tree; sorts = k.sorts; few = k.few; shallow = k.shallow } }
 
-  term_got : (t : TermTree) → IsTextOf (IsTermOf limit scope) text t → (s : TermSyntax) × IsTermSyntaxOf text s × TakesTerm limit scope s t
+  pub term_got : (t : TermTree) → IsTextOf (IsTermOf limit scope) text t → (s : TermSyntax) × IsTermSyntaxOf text s × TakesTerm limit scope s t
   term_got t k =
       let s = k.stands.syntax in
       let d = term_depth_is scope s t k.stands.tree in
@@ -56,12 +56,12 @@ module _ (limit : Limit) (low : limit.depth ≤ 1264) (scope : TextScope) (text 
   abbrev pub term_reader : Reader TermSyntax TermTree
   term_reader = record { Is = IsTermSyntaxOf text; Takes = TakesTerm limit scope; Stands = IsTextOf (IsTermOf limit scope) text; one = one_term_syntax text; put = term_put; got = term_got; same = λ s t u k l. same_tree t u (sym k.tree ∙ l.tree) }
 
-  form_put : (s : FormSyntax) (t : FormTree) → IsFormSyntaxOf text s → TakesForm limit scope s t → IsTextOf (IsFormOf limit scope) text t
+  pub form_put : (s : FormSyntax) (t : FormTree) → IsFormSyntaxOf text s → TakesForm limit scope s t → IsTextOf (IsFormOf limit scope) text t
   form_put s t is k =
       let m = subst (λ (z : FormSyntax). TakesForm limit scope z t) (sym is.tree) k in
       record { words = map spelling (words_of_form is.reading); spelled = is.words.1; stands = record { reading = is.reading; written = refl; tree = m.tree; sorts = m.sorts; few = m.few; shallow = m.shallow } }
 
-  form_got : (t : FormTree) → IsTextOf (IsFormOf limit scope) text t → (s : FormSyntax) × IsFormSyntaxOf text s × TakesForm limit scope s t
+  pub form_got : (t : FormTree) → IsTextOf (IsFormOf limit scope) text t → (s : FormSyntax) × IsFormSyntaxOf text s × TakesForm limit scope s t
   form_got t k =
       let w = k.stands.reading in
       let s = syntax_of_form w in
@@ -74,12 +74,12 @@ module _ (limit : Limit) (low : limit.depth ≤ 1264) (scope : TextScope) (text 
   abbrev pub form_reader : Reader FormSyntax FormTree
   form_reader = record { Is = IsFormSyntaxOf text; Takes = TakesForm limit scope; Stands = IsTextOf (IsFormOf limit scope) text; one = one_form_syntax text; put = form_put; got = form_got; same = λ s t u k l. same_tree t u (sym k.tree ∙ l.tree) }
 
-  qform_put : (s : FormSyntax) (t : QFormTree) → IsFormSyntaxOf text s → TakesQForm limit scope s t → IsTextOf (IsQFormOf limit scope) text t
+  pub qform_put : (s : FormSyntax) (t : QFormTree) → IsFormSyntaxOf text s → TakesQForm limit scope s t → IsTextOf (IsQFormOf limit scope) text t
   qform_put s t is k =
       let m = subst (λ (z : FormSyntax). TakesQForm limit scope z t) (sym is.tree) k in
       record { words = map spelling (words_of_form is.reading); spelled = is.words.1; stands = record { reading = is.reading; next = m.next; written = refl; tree = m.tree; sorts = m.sorts; few = m.few; shallow = m.shallow } }
 
-  qform_got : (t : QFormTree) → IsTextOf (IsQFormOf limit scope) text t → (s : FormSyntax) × IsFormSyntaxOf text s × TakesQForm limit scope s t
+  pub qform_got : (t : QFormTree) → IsTextOf (IsQFormOf limit scope) text t → (s : FormSyntax) × IsFormSyntaxOf text s × TakesQForm limit scope s t
   qform_got t k =
       let w = k.stands.reading in
       let s = syntax_of_form w in
@@ -91,12 +91,12 @@ module _ (limit : Limit) (low : limit.depth ≤ 1264) (scope : TextScope) (text 
   abbrev pub qform_reader : Reader FormSyntax QFormTree
   qform_reader = record { Is = IsFormSyntaxOf text; Takes = TakesQForm limit scope; Stands = IsTextOf (IsQFormOf limit scope) text; one = one_form_syntax text; put = qform_put; got = qform_got; same = λ s t u k l. same_form t u k.next l.next (sym k.tree ∙ l.tree) }
 
-  out_put : (s : OutSyntax) (t : OutTree) → IsOutSyntaxOf text s → TakesOut limit scope s t → IsTextOf (IsOutOf limit scope) text t
+  pub out_put : (s : OutSyntax) (t : OutTree) → IsOutSyntaxOf text s → TakesOut limit scope s t → IsTextOf (IsOutOf limit scope) text t
   out_put s t is k =
       let m = subst (λ (z : OutSyntax). TakesOut limit scope z t) (sym is.tree) k in
       record { words = map spelling (words_of_out is.reading); spelled = is.words.1; stands = record { reading = is.reading; written = refl; tree = m.tree; sorts = m.sorts; few = m.few; shallow = m.shallow } }
 
-  out_got : (t : OutTree) → IsTextOf (IsOutOf limit scope) text t → (s : OutSyntax) × IsOutSyntaxOf text s × TakesOut limit scope s t
+  pub out_got : (t : OutTree) → IsTextOf (IsOutOf limit scope) text t → (s : OutSyntax) × IsOutSyntaxOf text s × TakesOut limit scope s t
   out_got t k =
       let w = k.stands.reading in
       let s = syntax_of_out w in

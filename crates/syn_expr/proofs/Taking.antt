@@ -1,16 +1,16 @@
 -- Which tree a syntax tree is taken for, as the code finds it: what was counted decides, then what it stands for, then the sorts.
-use Rattle.std.proofs.Common.{◌≡◌, ◌↔◌, ℕ, ◌≤◌, Bool, true, false, List, Option, None, Some, IsTrue, refl, sym, ◌∙◌, ap, subst, arith, true≢false}
+use Rattle.std.proofs.Common.{◌≡◌, ◌↔◌, ℕ, ◌≤◌, Bool, true, false, List, Option, None, Some, IsTrue, sym, ◌∙◌, ap, subst, arith, true≢false}
 use Rattle.std.specs.Option.{option_map}
 use Rattle.syn_term.specs.declared.sorts.Var.{Var}
-use Rattle.syn_term.specs.Terms.{TermTree, bare, nodes, depth_of}
+use Rattle.syn_term.specs.Terms.{TermTree, bare}
 use Rattle.syn_form.specs.declared.syntax.TermSyntax.{TermSyntax}
 use Rattle.syn_form.specs.declared.syntax.FormSyntax.{FormSyntax}
 use Rattle.syn_form.specs.declared.syntax.OutSyntax.{OutSyntax}
 use Rattle.syn_form.specs.Elaboration.{elaborate_term, elaborate_form, elaborate_plain, elaborate_out}
 use Rattle.syn_form.specs.Plain.{HasOneSortEach}
-use Rattle.syn_form.specs.Quantified.{bare_qform, qform_nodes, qform_depth, qform_vars}
+use Rattle.syn_form.specs.Quantified.{bare_qform, qform_vars}
 use Rattle.syn_form.specs.Scopes.{TextScope}
-use Rattle.syn_form.specs.Trees.{FormTree, QFormTree, OutTree, bare_form, bare_out, form_nodes, form_depth, out_nodes, out_depth, term_vars, form_vars, out_vars}
+use Rattle.syn_form.specs.Trees.{FormTree, QFormTree, OutTree, bare_form, bare_out, term_vars, form_vars, out_vars}
 use Rattle.syn_expr.specs.Accepting.{TakesForm, TakesOut, TakesQForm, TakesTerm, limit_of}
 use Rattle.syn_expr.specs.Elaborating.{bare_reading}
 use Rattle.syn_expr.specs.Limits.{term_cost, term_levels, form_cost, form_levels, out_cost, out_levels}

@@ -1,6 +1,6 @@
 -- Which trees a scope can read: each symbol, variable and sort of the tree has a name by which the scope finds just it. Such a
 -- tree, printed, is read back.
-use Rattle.std.specs.Prelude.{◌≡◌, ℕ, ◌≤◌, ◌<◌, ◌^◌, Bool, true, false, List, [], ◌∷◌, ◌++◌, Option, None, Some, All, length}
+use Rattle.std.specs.Prelude.{◌≡◌, ℕ, ◌≤◌, ◌<◌, ◌^◌, Bool, true, false, List, [], ◌∷◌, ◌++◌, None, Some, All, length}
 use Rattle.std.specs.List.{flat_map}
 use Rattle.syn_term.specs.declared.sorts.Sort.{Sort}
 use Rattle.syn_term.specs.declared.sorts.Sort.TheVariants as sort

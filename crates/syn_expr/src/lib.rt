@@ -1,6 +1,7 @@
-//! Expressions as texts: a term, a formula or an output is printed as the one text that stands for
-//! it, by the names of a scope, and a text is read: the tree that stands for it, or a refusal where
-//! none does. Nothing says yet that what was printed reads back.
+//! Expressions as texts. A text is read as the one term, formula or output that it stands for, by the
+//! names of a scope, or refused where there is none; a term, formula or output is printed as the one
+//! text that the definition gives for it. What is printed is read back as the same tree, where the
+//! scope can read the tree.
 #![tactic(auto)]
 
 mod accepting;

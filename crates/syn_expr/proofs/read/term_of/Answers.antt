@@ -8,10 +8,10 @@ use Rattle.syn_expr.proofs.Stands.{read, unread, untaken}
 use Rattle.syn_expr.proofs.read.term_of.Goals as goal
 
 pub returns-in_default-clause-answer : goal.returns-in_default-clause-answer
-returns-in_default-clause-answer c = unread (term_reader expression_limit (omega arith) (spoken c.args.scope.now) c.args.text.now) _ c.in_default.is c.in_ok-parse_term.ensures.answer
+returns-in_default-clause-answer c = unread (term_reader expression_limit (omega arith) (spoken c.args.scope.now) c.args.text.now) _ c.in_default.is c.in_ok-syntax.ensures.answer
 
 pub returns-in-None-clause-answer : goal.returns-in-None-clause-answer
-returns-in-None-clause-answer c = untaken (term_reader expression_limit (omega arith) (spoken c.args.scope.now) c.args.text.now) _ _ c.in-Some.is c.in_ok-parse_term.ensures.answer (subst (Taken bare (TakesTerm expression_limit (spoken c.args.scope.now) c.in-Some.syntax)) c.in-None.is c.in_ok-taken_term.ensures.tree)
+returns-in-None-clause-answer c = untaken (term_reader expression_limit (omega arith) (spoken c.args.scope.now) c.args.text.now) _ _ c.in-Some.is c.in_ok-syntax.ensures.answer (subst (Taken bare (TakesTerm expression_limit (spoken c.args.scope.now) c.in-Some.syntax)) c.in-None.is c.in_ok-taken_term.ensures.tree)
 
 pub returns-clause-answer : goal.returns-clause-answer
-returns-clause-answer c = read (term_reader expression_limit (omega arith) (spoken c.args.scope.now) c.args.text.now) _ _ c.in-Some.is c.in_ok-parse_term.ensures.answer _ (subst (Taken bare (TakesTerm expression_limit (spoken c.args.scope.now) c.in-Some.syntax)) c.in-Some-2.is c.in_ok-taken_term.ensures.tree)
+returns-clause-answer c = read (term_reader expression_limit (omega arith) (spoken c.args.scope.now) c.args.text.now) _ _ c.in-Some.is c.in_ok-syntax.ensures.answer _ (subst (Taken bare (TakesTerm expression_limit (spoken c.args.scope.now) c.in-Some.syntax)) c.in-Some-2.is c.in_ok-taken_term.ensures.tree)
