@@ -18,6 +18,8 @@ mod specifications;
 #[cfg(test)]
 mod statuses;
 #[cfg(test)]
+mod tables;
+#[cfg(test)]
 mod terms;
 #[cfg(test)]
 mod theories;

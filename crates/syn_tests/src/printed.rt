@@ -3,12 +3,13 @@
 ghost use Rattle.std.specs.Prelude.{IfOk};
 ghost use Rattle.syn_term.specs.Bank.{Belongs};
 
+use crate::tables::added;
 use sqlite_items::Items;
 use std::alloc::Global;
 use std::test::Fail;
 use syn_expr::{Scope, print_form, print_out, print_qform, print_term};
 use syn_form::{Binder, Form, Out, QForm};
-use syn_term::{Bank, Kind, NoMemory, Shared, Sort, Sym, SymId, Symbols, Term, Text, Var};
+use syn_term::{Bank, Kind, NoMemory, Shared, Sort, SymId, Symbols, Term, Text, Var};
 
 const NAT: Sort = Sort::Nat;
 
@@ -25,26 +26,6 @@ struct Table {
     b: SymId,
     le: SymId,
     gap: SymId,
-}
-
-fn added(
-    alloc: Global,
-    syms: &mut Symbols,
-    name: &str,
-    kind: Kind,
-    args: &[Sort],
-    value: Option<Sort>,
-) -> Result<SymId, Fail> {
-    let sym = Sym {
-        name: Text::from_str(alloc, name)?,
-        kind,
-        args: Items::from_slice(alloc, args)?,
-        result: value,
-    };
-    match syms.add(sym)? {
-        None => Err(Fail::new("no symbol")),
-        Some(f) => Ok(f),
-    }
 }
 
 fn make_table(alloc: Global) -> Result<Table, Fail> {

@@ -1,34 +1,14 @@
 // Texts that are read, each printed again, and texts that are refused.
-use sqlite_items::Items;
+use crate::tables::added;
 use std::alloc::Global;
 use std::test::Fail;
 use syn_expr::{
     ExprError, Scope, print_form, print_out, print_qform, print_term, read_body, read_form,
     read_out, read_qform, read_term,
 };
-use syn_term::{Bank, Kind, Sort, Sym, Symbols, Text, Var};
+use syn_term::{Bank, Kind, Sort, Symbols, Var};
 
 const NAT: Sort = Sort::Nat;
-
-fn add(
-    alloc: Global,
-    syms: &mut Symbols,
-    name: &str,
-    kind: Kind,
-    args: &[Sort],
-    value: Option<Sort>,
-) -> Result<(), Fail> {
-    let sym = Sym {
-        name: Text::from_str(alloc, name)?,
-        kind,
-        args: Items::from_slice(alloc, args)?,
-        result: value,
-    };
-    match syms.add(sym)? {
-        None => Err(Fail::new("no symbol")),
-        Some(_) => Ok(()),
-    }
-}
 
 /// A table with lists of numbers, a relation, a function, two inputs and a Skolem symbol.
 fn make_table(alloc: Global) -> Result<Symbols, Fail> {
@@ -36,11 +16,11 @@ fn make_table(alloc: Global) -> Result<Symbols, Fail> {
     if syms.add_list("list", "nil", "cons", NAT)?.is_none() {
         return Err(Fail::new("no sort"));
     }
-    add(alloc, &mut syms, "le", Kind::Rel, &[NAT, NAT], None)?;
-    add(alloc, &mut syms, "dbl", Kind::Fun, &[NAT], Some(NAT))?;
-    add(alloc, &mut syms, "a", Kind::Input, &[], Some(NAT))?;
-    add(alloc, &mut syms, "b", Kind::Input, &[], Some(NAT))?;
-    add(alloc, &mut syms, "!gap.1", Kind::Skolem, &[NAT], Some(NAT))?;
+    added(alloc, &mut syms, "le", Kind::Rel, &[NAT, NAT], None)?;
+    added(alloc, &mut syms, "dbl", Kind::Fun, &[NAT], Some(NAT))?;
+    added(alloc, &mut syms, "a", Kind::Input, &[], Some(NAT))?;
+    added(alloc, &mut syms, "b", Kind::Input, &[], Some(NAT))?;
+    added(alloc, &mut syms, "!gap.1", Kind::Skolem, &[NAT], Some(NAT))?;
     Ok(syms)
 }
 
@@ -135,109 +115,156 @@ fn in_row(alloc: Global, syms: &Symbols, kind: Kinds, text: &str) -> Result<Stri
 }
 
 #[test]
-fn reads_in_files(rt: HostRuntime) -> Result<(), Fail> {
+fn reads_terms(rt: HostRuntime) -> Result<(), Fail> {
     let alloc = rt.alloc();
     let syms = make_table(alloc)?;
-    for (kind, text, want) in [
-        (Kinds::Term, " dbl( n ) # twice", "dbl(n)"),
-        (Kinds::Term, "cons(a, nil)", "cons(a, nil)"),
-        (Kinds::Term, "a = b", ""),
-        (Kinds::Term, "nat", ""),
-        (Kinds::Term, "s", ""),
-        (Kinds::Term, "s(s(n))", "s(s(n))"),
-        (Kinds::Term, "s(3)", "4"),
-        (Kinds::Term, "s(1000)", "s(1000)"),
-        (Kinds::Term, "dbl", ""),
-        (Kinds::Term, "dbl()", ""),
-        (Kinds::Term, "dbl(a, b)", ""),
-        (Kinds::Term, "le(a, b)", ""),
-        (Kinds::Term, "(a)", ""),
-        (Kinds::Term, "a b", ""),
-        (Kinds::Term, "a | b", ""),
-        (Kinds::Term, "", ""),
-        (Kinds::Form, "le(1000, 1000)", "le(1000, 1000)"),
-        (Kinds::Form, "le(1001, 1)", ""),
-        (Kinds::Form, "a = b = a", ""),
-        (Kinds::Form, "a = nil", ""),
-        (Kinds::Form, "le(a, nil)", ""),
-        (Kinds::Form, "?1 = a", ""),
-        (Kinds::Form, "!gap.1(a) = a", ""),
-        (Kinds::Form, "true and", ""),
-        (Kinds::Form, "(true", ""),
-        (Kinds::Form, "true)", ""),
-        (Kinds::Form, "()", ""),
-        (Kinds::Form, "a", ""),
-        (Kinds::Form, "le", ""),
-        (Kinds::Form, "all", ""),
-        (Kinds::Form, "not a = b", "not a = b"),
-        (Kinds::Form, "not not true", "not not true"),
+    for (text, want) in [
+        (" dbl( n ) # twice", "dbl(n)"),
+        ("cons(a, nil)", "cons(a, nil)"),
+        ("s(s(n))", "s(s(n))"),
+        ("s(3)", "4"),
+        ("s(1000)", "s(1000)"),
+    ] {
+        let got = in_file(alloc, &syms, Kinds::Term, text)?;
+        assert_eq!(rt; got.as_str(), want, "at {text}");
+    }
+    Ok(())
+}
+
+#[test]
+fn refuses_terms(rt: HostRuntime) -> Result<(), Fail> {
+    let alloc = rt.alloc();
+    let syms = make_table(alloc)?;
+    for text in [
+        "a = b",
+        "nat",
+        "s",
+        "dbl",
+        "dbl()",
+        "dbl(a, b)",
+        "le(a, b)",
+        "(a)",
+        "a b",
+        "a | b",
+        "",
+    ] {
+        let got = in_file(alloc, &syms, Kinds::Term, text)?;
+        assert!(rt; got.is_empty(), "at {text}");
+    }
+    Ok(())
+}
+
+#[test]
+fn reads_forms(rt: HostRuntime) -> Result<(), Fail> {
+    let alloc = rt.alloc();
+    let syms = make_table(alloc)?;
+    for (text, want) in [
+        ("le(1000, 1000)", "le(1000, 1000)"),
+        ("not a = b", "not a = b"),
+        ("not not true", "not not true"),
+        ("true and false or true", "(true and false) or true"),
         (
-            Kinds::Form,
-            "true and false or true",
-            "(true and false) or true",
-        ),
-        (
-            Kinds::Form,
             "true -> false or true and not false",
             "true -> (false or (true and not false))",
         ),
         (
-            Kinds::Form,
             "true and false and (true and true)",
             "true and false and (true and true)",
         ),
+        ("(true -> true) -> false", "(true -> true) -> false"),
         (
-            Kinds::Form,
-            "(true -> true) -> false",
-            "(true -> true) -> false",
-        ),
-        (
-            Kinds::Form,
             "true <-> true -> false",
             "(true -> (true -> false)) and ((true -> false) -> true)",
         ),
-        (
-            Kinds::Form,
-            "le(a, b) -> a = b -> b = a",
-            "le(a, b) -> (a = b -> b = a)",
-        ),
-        (Kinds::Form, "a = b <-> b = a <-> a = a", ""),
-        (
-            Kinds::Form,
-            "a = b <-> true",
-            "(a = b -> true) and (true -> a = b)",
-        ),
-        (
-            Kinds::Out,
-            "if a = 0 then b else if b = 0 then a else 0",
-            "if a = 0 then b else if b = 0 then a else 0",
-        ),
-        (
-            Kinds::Body,
-            "if a = 0 then b else if b = 0 then a else 0",
-            "if a = 0 then b else if b = 0 then a else 0",
-        ),
-        (Kinds::Out, "a", "a"),
-        (
-            Kinds::Out,
-            "if a = 0 then if b = 0 then a else b else 0",
-            "if a = 0 then if b = 0 then a else b else 0",
-        ),
-        (
-            Kinds::Out,
-            "if not (a = 0 and b = 0) then a else b",
-            "if not (a = 0 and b = 0) then a else b",
-        ),
-        (Kinds::Out, "a = 0", ""),
-        (Kinds::Out, "if a = 0 then a", ""),
-        (Kinds::Out, "if a = 0 then a else b else a", ""),
-        (Kinds::Out, "if (a = 0 then a else b", ""),
-        (Kinds::Out, "if then a else b", ""),
-        (Kinds::Out, "(a)", ""),
-        (Kinds::Out, "if a = 0 then b else nil", ""),
-        (Kinds::Out, "if all x: nat. x = x then b else a", ""),
+        ("le(a, b) -> a = b -> b = a", "le(a, b) -> (a = b -> b = a)"),
+        ("a = b <-> true", "(a = b -> true) and (true -> a = b)"),
     ] {
-        let got = in_file(alloc, &syms, kind, text)?;
+        let got = in_file(alloc, &syms, Kinds::Form, text)?;
+        assert_eq!(rt; got.as_str(), want, "at {text}");
+    }
+    Ok(())
+}
+
+#[test]
+fn refuses_forms(rt: HostRuntime) -> Result<(), Fail> {
+    let alloc = rt.alloc();
+    let syms = make_table(alloc)?;
+    for text in [
+        "le(1001, 1)",
+        "a = b = a",
+        "a = nil",
+        "le(a, nil)",
+        "?1 = a",
+        "!gap.1(a) = a",
+        "true and",
+        "(true",
+        "true)",
+        "()",
+        "a",
+        "le",
+        "all",
+        "a = b <-> b = a <-> a = a",
+    ] {
+        let got = in_file(alloc, &syms, Kinds::Form, text)?;
+        assert!(rt; got.is_empty(), "at {text}");
+    }
+    Ok(())
+}
+
+#[test]
+fn reads_outputs(rt: HostRuntime) -> Result<(), Fail> {
+    let alloc = rt.alloc();
+    let syms = make_table(alloc)?;
+    for (text, want) in [
+        (
+            "if a = 0 then b else if b = 0 then a else 0",
+            "if a = 0 then b else if b = 0 then a else 0",
+        ),
+        ("a", "a"),
+        (
+            "if a = 0 then if b = 0 then a else b else 0",
+            "if a = 0 then if b = 0 then a else b else 0",
+        ),
+        (
+            "if not (a = 0 and b = 0) then a else b",
+            "if not (a = 0 and b = 0) then a else b",
+        ),
+    ] {
+        let got = in_file(alloc, &syms, Kinds::Out, text)?;
+        assert_eq!(rt; got.as_str(), want, "at {text}");
+    }
+    Ok(())
+}
+
+#[test]
+fn refuses_outputs(rt: HostRuntime) -> Result<(), Fail> {
+    let alloc = rt.alloc();
+    let syms = make_table(alloc)?;
+    for text in [
+        "a = 0",
+        "if a = 0 then a",
+        "if a = 0 then a else b else a",
+        "if (a = 0 then a else b",
+        "if then a else b",
+        "(a)",
+        "if a = 0 then b else nil",
+        "if all x: nat. x = x then b else a",
+    ] {
+        let got = in_file(alloc, &syms, Kinds::Out, text)?;
+        assert!(rt; got.is_empty(), "at {text}");
+    }
+    Ok(())
+}
+
+#[test]
+fn reads_bodies(rt: HostRuntime) -> Result<(), Fail> {
+    let alloc = rt.alloc();
+    let syms = make_table(alloc)?;
+    for (text, want) in [(
+        "if a = 0 then b else if b = 0 then a else 0",
+        "if a = 0 then b else if b = 0 then a else 0",
+    )] {
+        let got = in_file(alloc, &syms, Kinds::Body, text)?;
         assert_eq!(rt; got.as_str(), want, "at {text}");
     }
     Ok(())
@@ -342,5 +369,33 @@ fn reads_many_brackets(rt: HostRuntime) -> Result<(), Fail> {
     let text = round(alloc, "(", ")", 1_000_000)?;
     let got = in_file(alloc, &syms, Kinds::Form, text.as_str())?;
     assert_eq!(rt; got.as_str(), "true");
+    Ok(())
+}
+
+/// A choice whose test is a chain with so many members after the first.
+fn choice(alloc: Global, more: u32) -> Result<String, Fail> {
+    let mut text = String::from_str(alloc, "if ")?;
+    for _ in 0..more {
+        text.push_str("true and ")?;
+    }
+    text.push_str("true then a else b")?;
+    Ok(text)
+}
+
+#[test]
+fn reads_larger_bodies(rt: HostRuntime) -> Result<(), Fail> {
+    let alloc = rt.alloc();
+    let syms = make_table(alloc)?;
+    for (kind, more, reads) in [
+        (Kinds::Out, 4_091, true),
+        (Kinds::Out, 4_092, false),
+        (Kinds::Body, 4_092, true),
+        (Kinds::Body, 262_139, true),
+        (Kinds::Body, 262_140, false),
+    ] {
+        let text = choice(alloc, more)?;
+        let got = in_file(alloc, &syms, kind, text.as_str())?;
+        assert!(rt; reads != got.is_empty(), "with {more} members more");
+    }
     Ok(())
 }
