@@ -1,0 +1,4 @@
+pub mod Tables
+pub mod Headings
+pub mod Clauses
+pub mod Declaring
