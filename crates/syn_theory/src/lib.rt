@@ -5,8 +5,12 @@
 ghost use Rattle.std.specs.Prelude.{◌≡◌};
 
 mod decl;
+mod monos;
+mod naming;
+mod theory;
 
 pub use decl::Decl;
+pub use theory::{DeclError, Theory};
 
 /// So many.
 pub fn one() -> u32

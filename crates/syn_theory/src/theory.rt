@@ -1,0 +1,133 @@
+// A theory: its declarations, and the table of symbols that they make.
+ghost use Rattle.std.specs.Prelude.{◌≡◌, ◌++◌, [], ◌∷◌, Ok, Err, IfOk, OnErr, map};
+ghost use Rattle.syn_term.specs.Names.{IsName};
+ghost use Rattle.syn_term.specs.Symbols.{MayAdd, with_symbol};
+ghost use Rattle.syn_term.specs.DeclaredSorts.{MayAddList, MayAddTuple, with_list, with_tuple};
+ghost use Rattle.syn_theory.specs.Parts.{Steps, bare_theory, with_decl};
+ghost use Rattle.syn_theory.specs.Tables.{table_after, table_of};
+ghost use Rattle.syn_theory.specs.declared.theory.DeclError.TheVariants as error;
+
+use crate::decl::Decl;
+use sqlite_items::Items;
+use std::alloc::Global;
+use std::marker::Model;
+use syn_term::{NoMemory, Sort, Sym, Symbols, Text, is_name};
+
+/// Why a theory or a declaration was refused.
+#[derive(Clone, Copy, Debug, PartialEq, Eq)]
+pub enum DeclError {
+    /// The name is no name, or the declaration may not follow those before it.
+    Refused,
+    /// Memory was refused, or numbers of symbols or sorts ran out.
+    NoMemory,
+}
+
+impl From<NoMemory> for DeclError {
+    ghost use Rattle.syn_theory.specs.declared.theory.DeclError.{DeclError};
+    ghost use Rattle.syn_theory.specs.declared.theory.DeclError.TheVariants as error;
+
+    ghost from_gives = { λ _ e. e ≡ error.NoMemory };
+
+    fn from(_error: NoMemory) -> DeclError {
+        DeclError::NoMemory
+    }
+}
+
+/// A theory. Contracts see it as its name and its declarations.
+#[derive(Drop)]
+pub struct Theory {
+    name: Text,
+    syms: Symbols,
+    decls: Items<Decl>,
+}
+
+impl Model for Theory {
+    ghost use Rattle.std.specs.Prelude.{◌≡◌};
+    ghost use Rattle.syn_theory.specs.Parts.{TheoryParts};
+    ghost use Rattle.syn_theory.specs.Tables.{table_of};
+
+    ghost Value = { TheoryParts };
+
+    ghost view = { λ t. record { name = t.name; decls = t.decls } };
+
+    ghost invariant = { λ t. t.syms ≡ table_of t.decls };
+}
+
+// Adds the symbol. Whether it may be added is the answer.
+fn add_symbol(syms: &mut Symbols, sym: Sym) -> Result<bool, NoMemory>
+    ensures added { IfOk result (Steps syms.old syms.new (with_symbol syms.old sym) (MayAdd syms.old sym)) }
+    ensures err { OnErr result (syms.new ≡ syms.old) }
+{
+    match syms.add(sym)? {
+        None => Ok(false),
+        Some(_) => Ok(true),
+    }
+}
+
+// Lets the last declaration go.
+fn drop_last(decls: &mut Items<Decl>)
+    ensures { (ds : _) (d : Decl) → decls.old ≡ ds ++ d ∷ [] → decls.new ≡ ds }
+{
+    let _ = decls.pop();
+}
+
+impl Theory {
+    /// The theory of this name that declares nothing.
+    pub fn new(alloc: Global, name: &str) -> Result<Theory, DeclError>
+        ensures ok { IfOk result (λ t. IsName name.now × (t ≡ bare_theory name.now)) }
+        ensures refused { result ≡ Err error.Refused → IsName name.now → ⊥ }
+    {
+        if !is_name(name) {
+            return Err(DeclError::Refused);
+        }
+        let Ok(name) = Text::from_str(alloc, name) else {
+            return Err(DeclError::NoMemory);
+        };
+        Ok(Theory {
+            name,
+            syms: Symbols::new(alloc)?,
+            decls: Items::new(alloc),
+        })
+    }
+
+    /// The name of the theory.
+    pub fn name(&self) -> &str
+        ensures { result.now ≡ (self.now).name }
+    {
+        self.name.as_str()
+    }
+
+    /// The declarations, in the order in which they came.
+    pub fn decls(&self) -> &[Decl]
+        ensures { result.now ≡ (self.now).decls }
+    {
+        self.decls.as_slice()
+    }
+
+    /// The table of symbols that the declarations make.
+    pub fn symbols(&self) -> &Symbols
+        ensures { result.now ≡ table_of (self.now).decls }
+    {
+        &self.syms
+    }
+
+    /// Puts down a declaration that brings this symbol. False: the symbol may not be added.
+    pub(crate) fn put_symbol(&mut self, sym: Sym, decl: Decl) -> Result<bool, NoMemory>
+        requires { table_after (table_of self.old.decls) decl ≡ with_symbol (table_of self.old.decls) sym }
+        ensures ok { IfOk result (Steps self.old self.new (with_decl self.old decl) (MayAdd (table_of self.old.decls) sym)) }
+        ensures err { OnErr result (self.new ≡ self.old) }
+    {
+        self.decls.push(decl)?;
+        match add_symbol(&mut self.syms, sym) {
+            Ok(true) => Ok(true),
+            Ok(false) => {
+                drop_last(&mut self.decls);
+                Ok(false)
+            }
+            Err(error) => {
+                drop_last(&mut self.decls);
+                Err(error)
+            }
+        }
+    }
+}
