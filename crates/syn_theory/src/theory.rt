@@ -45,8 +45,12 @@ impl Model for Theory {
     ghost use Rattle.std.specs.Prelude.{◌≡◌};
     ghost use Rattle.syn_theory.specs.Parts.{TheoryParts};
     ghost use Rattle.syn_theory.specs.Tables.{table_of};
+    ghost use Rattle.syn_theory.specs.contracts.decl.Decl as decl;
+    ghost use Rattle.std.specs.Coded.{codes};
 
     ghost Value = { TheoryParts };
+
+    ghost coded = { Prim.hlevel (codes, decl.the_row.coded) };
 
     ghost view = { λ t. record { name = t.name; decls = t.decls } };
 
