@@ -1,5 +1,5 @@
 -- What holds of the pieces that a list is put together from, and of the whole.
-use Rattle.std.proofs.Common.{◌≡◌, ◌↔◌, ℕ, List, Any, Contains, All, IsTrue, Bool, get_or}
+use Rattle.std.proofs.Common.{◌↔◌, List, Any, Contains, All, IsTrue, Bool, get_or}
 use Rattle.std.specs.List.{flat_map}
 use Rattle.std.proofs.lemmas.List.Elements.{Contains-get_or}
 use Rattle.syn_form.proofs.Lists.{All-flat_map, All-within, Contains-flat_map, Contains-flat_map_from}

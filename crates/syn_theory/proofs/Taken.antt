@@ -1,5 +1,5 @@
 -- A name is taken where a symbol is found by it or a sort is.
-use Rattle.std.proofs.Common.{◌≡◌, ◌≢◌, ◌↔◌, ℕ, List, [], Option, Some, None, Any, Bool, true, false, Contains, IsTrue, MatchOption, get_or, slice_get, refl, sym, ◌∙◌, ap, true≢false}
+use Rattle.std.proofs.Common.{◌≡◌, ◌≢◌, ◌↔◌, ℕ, List, Option, Some, None, Any, Bool, true, false, Contains, IsTrue, MatchOption, slice_get, refl, sym, ◌∙◌, ap, true≢false}
 use Rattle.std.specs.Option.{is_some, option_map}
 use Rattle.std.proofs.lemmas.Option.{get_or_from_slice_get, slice_get-get_or, slice_get_within}
 use Rattle.syn_term.specs.declared.sorts.NamedSort.{NamedSort}

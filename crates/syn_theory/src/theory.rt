@@ -1,5 +1,5 @@
 // A theory: its declarations, and the table of symbols that they make.
-ghost use Rattle.std.specs.Prelude.{◌≡◌, ◌++◌, [], ◌∷◌, Ok, Err, IfOk, OnErr, map};
+ghost use Rattle.std.specs.Prelude.{◌≡◌, ◌++◌, [], ◌∷◌, Ok, Err, IfOk, OnOk, OnErr};
 ghost use Rattle.syn_term.specs.Names.{IsName};
 ghost use Rattle.syn_term.specs.Symbols.{MayAdd, with_symbol};
 ghost use Rattle.syn_term.specs.DeclaredSorts.{MayAddList, MayAddTuple, with_list, with_tuple};
@@ -63,6 +63,34 @@ fn add_symbol(syms: &mut Symbols, sym: Sym) -> Result<bool, NoMemory>
     ensures err { OnErr result (syms.new ≡ syms.old) }
 {
     match syms.add(sym)? {
+        None => Ok(false),
+        Some(_) => Ok(true),
+    }
+}
+
+// Declares the list sort. Whether it may be declared is the answer.
+fn add_list(
+    syms: &mut Symbols,
+    name: &str,
+    nil: &str,
+    cons: &str,
+    item: Sort,
+) -> Result<bool, NoMemory>
+    ensures added { IfOk result (Steps syms.old syms.new (with_list syms.old name.now nil.now cons.now item) (MayAddList syms.old name.now nil.now cons.now item)) }
+    ensures err { OnErr result (syms.new ≡ syms.old) }
+{
+    match syms.add_list(name, nil, cons, item)? {
+        None => Ok(false),
+        Some(_) => Ok(true),
+    }
+}
+
+// Declares the tuple sort. Whether it may be declared is the answer.
+fn add_tuple(syms: &mut Symbols, name: &str, make: &str, parts: &[Sort]) -> Result<bool, NoMemory>
+    ensures added { IfOk result (Steps syms.old syms.new (with_tuple syms.old name.now make.now parts.now) (MayAddTuple syms.old name.now make.now parts.now)) }
+    ensures err { OnErr result (syms.new ≡ syms.old) }
+{
+    match syms.add_tuple(name, make, parts)? {
         None => Ok(false),
         Some(_) => Ok(true),
     }
@@ -133,5 +161,68 @@ impl Theory {
                 Err(error)
             }
         }
+    }
+
+    /// Puts down a declaration that brings this list sort. False: the sort may not be declared.
+    pub(crate) fn put_list(
+        &mut self,
+        name: &str,
+        nil: &str,
+        cons: &str,
+        item: Sort,
+        decl: Decl,
+    ) -> Result<bool, NoMemory>
+        requires { table_after (table_of self.old.decls) decl ≡ with_list (table_of self.old.decls) name.now nil.now cons.now item }
+        ensures ok { IfOk result (Steps self.old self.new (with_decl self.old decl) (MayAddList (table_of self.old.decls) name.now nil.now cons.now item)) }
+        ensures err { OnErr result (self.new ≡ self.old) }
+    {
+        self.decls.push(decl)?;
+        match add_list(&mut self.syms, name, nil, cons, item) {
+            Ok(true) => Ok(true),
+            Ok(false) => {
+                drop_last(&mut self.decls);
+                Ok(false)
+            }
+            Err(error) => {
+                drop_last(&mut self.decls);
+                Err(error)
+            }
+        }
+    }
+
+    /// Puts down a declaration that brings this tuple sort. False: the sort may not be declared.
+    pub(crate) fn put_tuple(
+        &mut self,
+        name: &str,
+        make: &str,
+        parts: &[Sort],
+        decl: Decl,
+    ) -> Result<bool, NoMemory>
+        requires { table_after (table_of self.old.decls) decl ≡ with_tuple (table_of self.old.decls) name.now make.now parts.now }
+        ensures ok { IfOk result (Steps self.old self.new (with_decl self.old decl) (MayAddTuple (table_of self.old.decls) name.now make.now parts.now)) }
+        ensures err { OnErr result (self.new ≡ self.old) }
+    {
+        self.decls.push(decl)?;
+        match add_tuple(&mut self.syms, name, make, parts) {
+            Ok(true) => Ok(true),
+            Ok(false) => {
+                drop_last(&mut self.decls);
+                Ok(false)
+            }
+            Err(error) => {
+                drop_last(&mut self.decls);
+                Err(error)
+            }
+        }
+    }
+
+    /// Puts down a declaration that brings no symbol and no sort.
+    pub(crate) fn put_plain(&mut self, decl: Decl) -> Result<(), NoMemory>
+        requires { table_after (table_of self.old.decls) decl ≡ table_of self.old.decls }
+        ensures ok { OnOk result (self.new ≡ with_decl self.old decl) }
+        ensures err { OnErr result (self.new ≡ self.old) }
+    {
+        self.decls.push(decl)?;
+        Ok(())
     }
 }
