@@ -1,5 +1,5 @@
 // A theory: its declarations, and the table of symbols that they make.
-ghost use Rattle.std.specs.Prelude.{◌≡◌, ◌++◌, [], ◌∷◌, Ok, Err, IfOk, OnOk, OnErr};
+ghost use Rattle.std.specs.Prelude.{◌≡◌, ◌↔◌, ◌++◌, [], ◌∷◌, Ok, Err, IfOk, OnOk, OnErr};
 ghost use Rattle.syn_term.specs.Names.{IsName};
 ghost use Rattle.syn_term.specs.Symbols.{MayAdd, with_symbol};
 ghost use Rattle.syn_term.specs.DeclaredSorts.{MayAddList, MayAddTuple, with_list, with_tuple};
@@ -107,7 +107,7 @@ impl Theory {
     /// The theory of this name that declares nothing.
     pub fn new(alloc: Global, name: &str) -> Result<Theory, DeclError>
         ensures ok { IfOk result (λ t. IsName name.now × (t ≡ bare_theory name.now)) }
-        ensures refused { result ≡ Err error.Refused → IsName name.now → ⊥ }
+        ensures refused { result ≡ Err error.Refused ↔ (IsName name.now → ⊥) }
     {
         if !is_name(name) {
             return Err(DeclError::Refused);
