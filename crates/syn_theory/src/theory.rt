@@ -3,15 +3,15 @@ ghost use Rattle.std.specs.Prelude.{◌≡◌, ◌↔◌, ◌++◌, [], ◌∷�
 ghost use Rattle.syn_term.specs.Names.{IsName};
 ghost use Rattle.syn_term.specs.Symbols.{MayAdd, with_symbol};
 ghost use Rattle.syn_term.specs.DeclaredSorts.{MayAddList, MayAddTuple, with_list, with_tuple};
-ghost use Rattle.syn_theory.specs.Parts.{Steps, bare_theory, with_decl};
-ghost use Rattle.syn_theory.specs.Tables.{table_after, table_of};
+ghost use Rattle.syn_theory.specs.Parts.{MayBring, Steps, bare_theory, with_decl};
+ghost use Rattle.syn_theory.specs.Tables.{fun_symbol, order_symbol, rel_symbol, table_after, table_of};
 ghost use Rattle.syn_theory.specs.declared.theory.DeclError.TheVariants as error;
 
 use crate::decl::Decl;
 use sqlite_items::Items;
 use std::alloc::Global;
 use std::marker::Model;
-use syn_term::{NoMemory, Sort, Sym, Symbols, Text, is_name};
+use syn_term::{Kind, NoMemory, Sort, Sym, Symbols, Text, is_name};
 
 /// Why a theory or a declaration was refused.
 #[derive(Clone, Copy, Debug, PartialEq, Eq)]
@@ -93,6 +93,85 @@ fn add_tuple(syms: &mut Symbols, name: &str, make: &str, parts: &[Sort]) -> Resu
     match syms.add_tuple(name, make, parts)? {
         None => Ok(false),
         Some(_) => Ok(true),
+    }
+}
+
+fn fun_sym(alloc: Global, name: &str, args: &[Sort], value: Sort) -> Result<Sym, NoMemory>
+    ensures { IfOk result (λ sym. sym ≡ fun_symbol name.now args.now value) }
+{
+    Ok(Sym {
+        name: Text::from_str(alloc, name)?,
+        kind: Kind::Fun,
+        args: Items::from_slice(alloc, args)?,
+        result: Some(value),
+    })
+}
+
+fn rel_sym(alloc: Global, name: &str, args: &[Sort]) -> Result<Sym, NoMemory>
+    ensures { IfOk result (λ sym. sym ≡ rel_symbol name.now args.now) }
+{
+    Ok(Sym {
+        name: Text::from_str(alloc, name)?,
+        kind: Kind::Rel,
+        args: Items::from_slice(alloc, args)?,
+        result: None,
+    })
+}
+
+fn order_sym(alloc: Global, name: &str, args: &[Sort]) -> Result<Sym, NoMemory>
+    ensures { IfOk result (λ sym. sym ≡ order_symbol name.now args.now) }
+{
+    let mut both = Items::from_slice(alloc, args)?;
+    both.append(Items::from_slice(alloc, args)?)?;
+    Ok(Sym {
+        name: Text::from_str(alloc, name)?,
+        kind: Kind::Order,
+        args: both,
+        result: None,
+    })
+}
+
+// Adds to the table what the declaration brings. Whether it may be added is the answer.
+fn bring(alloc: Global, syms: &mut Symbols, decl: &Decl) -> Result<bool, NoMemory>
+    ensures added { IfOk result (Steps syms.old syms.new (table_after syms.old decl.now) (MayBring syms.old decl.now)) }
+    ensures err { OnErr result (syms.new ≡ syms.old) }
+{
+    match decl {
+        Decl::ListSort {
+            name,
+            nil,
+            cons,
+            item,
+        } => add_list(syms, name.as_str(), nil.as_str(), cons.as_str(), *item),
+        Decl::TupleSort { name, make, parts } => {
+            add_tuple(syms, name.as_str(), make.as_str(), parts.as_slice())
+        }
+        Decl::Fun {
+            name,
+            args,
+            result: value,
+        } => add_symbol(
+            syms,
+            fun_sym(alloc, name.as_str(), args.as_slice(), *value)?,
+        ),
+        Decl::Rel { name, args } => {
+            add_symbol(syms, rel_sym(alloc, name.as_str(), args.as_slice())?)
+        }
+        Decl::Order { name, args, .. } => {
+            add_symbol(syms, order_sym(alloc, name.as_str(), args.as_slice())?)
+        }
+        _ => Ok(true),
+    }
+}
+
+// The same for the last of the declarations.
+fn bring_last(alloc: Global, syms: &mut Symbols, decls: &[Decl]) -> Result<bool, NoMemory>
+    ensures added { (ds : _) (d : Decl) → decls.now ≡ ds ++ d ∷ [] → IfOk result (Steps syms.old syms.new (table_after syms.old d) (MayBring syms.old d)) }
+    ensures err { OnErr result (syms.new ≡ syms.old) }
+{
+    match decls {
+        [.., decl] => bring(alloc, syms, decl),
+        [] => Ok(true),
     }
 }
 
@@ -224,5 +303,24 @@ impl Theory {
     {
         self.decls.push(decl)?;
         Ok(())
+    }
+
+    /// Puts down a declaration with all that it brings. False: the table may not take that.
+    pub(crate) fn put(&mut self, alloc: Global, decl: Decl) -> Result<bool, NoMemory>
+        ensures ok { IfOk result (Steps self.old self.new (with_decl self.old decl) (MayBring (table_of self.old.decls) decl)) }
+        ensures err { OnErr result (self.new ≡ self.old) }
+    {
+        self.decls.push(decl)?;
+        match bring_last(alloc, &mut self.syms, self.decls.as_slice()) {
+            Ok(true) => Ok(true),
+            Ok(false) => {
+                drop_last(&mut self.decls);
+                Ok(false)
+            }
+            Err(error) => {
+                drop_last(&mut self.decls);
+                Err(error)
+            }
+        }
     }
 }
