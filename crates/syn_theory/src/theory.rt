@@ -1,5 +1,5 @@
 // A theory: its declarations, and the table of symbols that they make.
-ghost use Rattle.std.specs.Prelude.{◌≡◌, ◌↔◌, ◌++◌, [], ◌∷◌, Ok, Err, IfOk, OnOk, OnErr};
+ghost use Rattle.std.specs.Prelude.{◌≡◌, ◌↔◌, ◌++◌, [], ◌∷◌, Err, IfOk, OnErr};
 ghost use Rattle.syn_term.specs.Names.{IsName};
 ghost use Rattle.syn_term.specs.Symbols.{MayAdd, with_symbol};
 ghost use Rattle.syn_term.specs.DeclaredSorts.{MayAddList, MayAddTuple, with_list, with_tuple};
@@ -220,89 +220,6 @@ impl Theory {
         ensures { result.now ≡ table_of (self.now).decls }
     {
         &self.syms
-    }
-
-    /// Puts down a declaration that brings this symbol. False: the symbol may not be added.
-    pub(crate) fn put_symbol(&mut self, sym: Sym, decl: Decl) -> Result<bool, NoMemory>
-        requires { table_after (table_of self.old.decls) decl ≡ with_symbol (table_of self.old.decls) sym }
-        ensures ok { IfOk result (Steps self.old self.new (with_decl self.old decl) (MayAdd (table_of self.old.decls) sym)) }
-        ensures err { OnErr result (self.new ≡ self.old) }
-    {
-        self.decls.push(decl)?;
-        match add_symbol(&mut self.syms, sym) {
-            Ok(true) => Ok(true),
-            Ok(false) => {
-                drop_last(&mut self.decls);
-                Ok(false)
-            }
-            Err(error) => {
-                drop_last(&mut self.decls);
-                Err(error)
-            }
-        }
-    }
-
-    /// Puts down a declaration that brings this list sort. False: the sort may not be declared.
-    pub(crate) fn put_list(
-        &mut self,
-        name: &str,
-        nil: &str,
-        cons: &str,
-        item: Sort,
-        decl: Decl,
-    ) -> Result<bool, NoMemory>
-        requires { table_after (table_of self.old.decls) decl ≡ with_list (table_of self.old.decls) name.now nil.now cons.now item }
-        ensures ok { IfOk result (Steps self.old self.new (with_decl self.old decl) (MayAddList (table_of self.old.decls) name.now nil.now cons.now item)) }
-        ensures err { OnErr result (self.new ≡ self.old) }
-    {
-        self.decls.push(decl)?;
-        match add_list(&mut self.syms, name, nil, cons, item) {
-            Ok(true) => Ok(true),
-            Ok(false) => {
-                drop_last(&mut self.decls);
-                Ok(false)
-            }
-            Err(error) => {
-                drop_last(&mut self.decls);
-                Err(error)
-            }
-        }
-    }
-
-    /// Puts down a declaration that brings this tuple sort. False: the sort may not be declared.
-    pub(crate) fn put_tuple(
-        &mut self,
-        name: &str,
-        make: &str,
-        parts: &[Sort],
-        decl: Decl,
-    ) -> Result<bool, NoMemory>
-        requires { table_after (table_of self.old.decls) decl ≡ with_tuple (table_of self.old.decls) name.now make.now parts.now }
-        ensures ok { IfOk result (Steps self.old self.new (with_decl self.old decl) (MayAddTuple (table_of self.old.decls) name.now make.now parts.now)) }
-        ensures err { OnErr result (self.new ≡ self.old) }
-    {
-        self.decls.push(decl)?;
-        match add_tuple(&mut self.syms, name, make, parts) {
-            Ok(true) => Ok(true),
-            Ok(false) => {
-                drop_last(&mut self.decls);
-                Ok(false)
-            }
-            Err(error) => {
-                drop_last(&mut self.decls);
-                Err(error)
-            }
-        }
-    }
-
-    /// Puts down a declaration that brings no symbol and no sort.
-    pub(crate) fn put_plain(&mut self, decl: Decl) -> Result<(), NoMemory>
-        requires { table_after (table_of self.old.decls) decl ≡ table_of self.old.decls }
-        ensures ok { OnOk result (self.new ≡ with_decl self.old decl) }
-        ensures err { OnErr result (self.new ≡ self.old) }
-    {
-        self.decls.push(decl)?;
-        Ok(())
     }
 
     /// Puts down a declaration with all that it brings. False: the table may not take that.
