@@ -20,7 +20,8 @@ use Rattle.syn_form.specs.Substitutions.{same_var}
 use Rattle.syn_form.specs.Trees.{QFormTree, FormTree, OutTree, all_of, form_vars, out_vars, term_vars}
 use Rattle.syn_theory.specs.declared.decl.Decl.{Decl}
 use Rattle.syn_theory.specs.declared.decl.Decl.TheVariants as decl
-use Rattle.syn_theory.specs.Clauses.{HasArguments, Rest, UsesForm, UsesOut, turn_of}
+use Rattle.syn_theory.specs.declared.uses.Rest.{Rest}
+use Rattle.syn_theory.specs.Clauses.{HasArguments, UsesForm, UsesOut, turn_of}
 use Rattle.syn_theory.specs.Headings.{heading_of, is_whole}
 use Rattle.syn_theory.specs.Tables.{IsDeclared, fun_symbol, monos_of, order_symbol, other_names, rel_symbol, table_of}
 

@@ -5,6 +5,7 @@
 ghost use Rattle.std.specs.Prelude.{◌≡◌};
 
 mod decl;
+mod uses;
 
 pub use decl::Decl;
 

@@ -1,0 +1,3 @@
+pub mod TermNodes
+pub mod Deciding
+pub mod Using
