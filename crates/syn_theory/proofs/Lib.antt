@@ -1,3 +1,4 @@
 pub mod TermNodes
 pub mod Deciding
 pub mod Using
+pub mod Over
