@@ -5,6 +5,7 @@
 ghost use Rattle.std.specs.Prelude.{◌≡◌};
 
 mod among;
+mod closed;
 mod decl;
 mod uses;
 
