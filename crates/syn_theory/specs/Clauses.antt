@@ -17,6 +17,7 @@ use Rattle.syn_form.specs.declared.trees.Out.{Out, every-Out}
 use Rattle.syn_form.specs.declared.trees.Out.TheOpen.{Out-F}
 use Rattle.syn_form.specs.Plain.{IsSorted}
 use Rattle.syn_form.specs.Trees.{FormTree, OutTree, term_vars}
+use Rattle.syn_theory.specs.declared.uses.Rest.{Rest}
 use Rattle.syn_theory.specs.Headings.{Pattern, Role, first_of_two, second_of_two, only_one, patterns_of, role_of}
 
 abbrev pub IsVariable : TermTree → Type 0
@@ -28,11 +29,6 @@ pub record HasArguments (table : SymbolTable) (sorts : List Sort) (args : List T
   pub of_sorts : map (sort_of table) args ≡ map Some sorts
   pub flat : All (λ t. All IsVariable (args_of t)) args
   pub numbered : map (λ v. v.number) (flat_map term_vars args) ≡ range_with_len 1 (length (flat_map term_vars args))
-
--- where a body may use the symbol that it defines: with this variable at this place, counted from 0
-pub record Rest : Type 0 where
-  pub place : ℕ
-  pub var : Var
 
 abbrev pub last_var : List Var → Option Var
 last_var [] = None

@@ -20,27 +20,27 @@ use Rattle.syn_form.specs.Substitutions.{same_var}
 use Rattle.syn_form.specs.Trees.{QFormTree, FormTree, OutTree, all_of, form_vars, out_vars, term_vars}
 use Rattle.syn_theory.specs.declared.decl.Decl.{Decl}
 use Rattle.syn_theory.specs.declared.decl.Decl.TheVariants as decl
-use Rattle.syn_theory.specs.Clauses.{HasArguments, Rest, UsesForm, UsesOut, turn_of}
+use Rattle.syn_theory.specs.declared.uses.Rest.{Rest}
+use Rattle.syn_theory.specs.Clauses.{HasArguments, UsesForm, UsesOut, turn_of}
 use Rattle.syn_theory.specs.Headings.{heading_of, is_whole}
+use Rattle.syn_theory.specs.Parts.{MayBring}
 use Rattle.syn_theory.specs.Tables.{IsDeclared, fun_symbol, monos_of, order_symbol, other_names, rel_symbol, table_of}
 
 -- no axiom and no monotonicity row has the name
 abbrev pub IsOtherwiseFree : List Decl → List ℕ → Type 0
 IsOtherwiseFree ds name = Contains (other_names ds) name → ⊥
 
--- a function or relation takes one argument or more
-pub record MayHead (ds : List Decl) (sym : Sym) : Type 0 where
-  pub may : MayAdd (table_of ds) sym
-  pub free : IsOtherwiseFree ds sym.name
-  pub some : 1 ≤ length sym.args
+-- a function or relation has a new name, and one argument or more
+pub record AsksHead (ds : List Decl) (name : List ℕ) (args : List Sort) : Type 0 where
+  pub free : IsOtherwiseFree ds name
+  pub some : 1 ≤ length args
 
 -- the variable is one of those numbered from 1 with these sorts
 abbrev pub IsNumberedIn : List Sort → Var → Type 0
 IsNumberedIn sorts v = (1 ≤ v.number) × (slice_get sorts (v.number - 1) ≡ Some v.sort)
 
 -- an order is on one to four arguments, and its measure is a number over them
-pub record MayOrder (ds : List Decl) (name : List ℕ) (args : List Sort) (measure : TermTree) : Type 0 where
-  pub may : MayAdd (table_of ds) (order_symbol name args)
+pub record AsksOrder (ds : List Decl) (name : List ℕ) (args : List Sort) (measure : TermTree) : Type 0 where
   pub free : IsOtherwiseFree ds name
   pub few : (1 ≤ length args) × (length args ≤ 4)
   pub sorted : IsSorted (table_of ds) measure
@@ -137,17 +137,17 @@ pub record MayRelClause (ds : List Decl) (args : List TermTree) (body : FormTree
   pub over : AreAmong (form_vars body) (flat_map term_vars args)
   pub uses : UsesForm (last_symbol (table_of ds)) rest body
 
--- what a declaration asks by itself
-abbrev pub Fits : List Decl → Decl → Type 0
-Fits ds (decl.ListSort name nil cons item) = MayAddList (table_of ds) name nil cons item × All (IsOtherwiseFree ds) (name ∷ nil ∷ cons ∷ [])
-Fits ds (decl.TupleSort name make parts) = MayAddTuple (table_of ds) name make parts × All (IsOtherwiseFree ds) (name ∷ make ∷ [])
-Fits ds (decl.Fun name args result) = MayHead ds (fun_symbol name args result)
-Fits ds (decl.Rel name args) = MayHead ds (rel_symbol name args)
-Fits ds (decl.FunClause args body) = MayFunClause ds args body
-Fits ds (decl.RelClause args body) = MayRelClause ds args body
-Fits ds (decl.Order name args measure) = MayOrder ds name args measure
-Fits ds (decl.Axiom name f) = MayAxiom ds name f
-Fits ds (decl.Monotone name m) = MayMono ds name m
+-- what a declaration asks besides that the table may take what it brings
+abbrev pub Asks : List Decl → Decl → Type 0
+Asks ds (decl.ListSort name nil cons item) = All (IsOtherwiseFree ds) (name ∷ nil ∷ cons ∷ [])
+Asks ds (decl.TupleSort name make parts) = All (IsOtherwiseFree ds) (name ∷ make ∷ [])
+Asks ds (decl.Fun name args result) = AsksHead ds name args
+Asks ds (decl.Rel name args) = AsksHead ds name args
+Asks ds (decl.FunClause args body) = MayFunClause ds args body
+Asks ds (decl.RelClause args body) = MayRelClause ds args body
+Asks ds (decl.Order name args measure) = AsksOrder ds name args measure
+Asks ds (decl.Axiom name f) = MayAxiom ds name f
+Asks ds (decl.Monotone name m) = MayMono ds name m
 
 abbrev pub is_clause : Decl → Bool
 is_clause (decl.FunClause args body) = true
@@ -161,7 +161,8 @@ ComesInTime ds false = is_whole ds ≡ true
 
 -- the declaration may follow these
 pub record MayDeclare (ds : List Decl) (d : Decl) : Type 0 where
-  pub fits : Fits ds d
+  pub brings : MayBring (table_of ds) d
+  pub asks : Asks ds d
   pub in_time : ComesInTime ds (is_clause d)
 
 -- each declaration may follow those before it

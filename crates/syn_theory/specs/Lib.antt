@@ -1,5 +1,6 @@
 pub mod Tables
 pub mod Headings
 pub mod Clauses
-pub mod Declaring
 pub mod Parts
+pub mod Declaring
+pub mod Closing

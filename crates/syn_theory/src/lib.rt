@@ -2,19 +2,13 @@
 //! symbols that they make.
 #![tactic(auto)]
 
-ghost use Rattle.std.specs.Prelude.{◌≡◌};
-
+mod among;
+mod closed;
 mod decl;
 mod monos;
 mod naming;
 mod theory;
+mod uses;
 
 pub use decl::Decl;
 pub use theory::{DeclError, Theory};
-
-/// So many.
-pub fn one() -> u32
-    ensures { result ≡ 1 }
-{
-    1
-}
