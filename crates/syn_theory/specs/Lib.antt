@@ -2,3 +2,4 @@ pub mod Tables
 pub mod Headings
 pub mod Clauses
 pub mod Declaring
+pub mod Views

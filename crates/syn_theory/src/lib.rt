@@ -5,6 +5,9 @@
 ghost use Rattle.std.specs.Prelude.{◌≡◌};
 
 mod decl;
+mod headings;
+mod patterns;
+mod turns;
 
 pub use decl::Decl;
 
