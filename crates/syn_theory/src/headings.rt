@@ -1,7 +1,6 @@
 // The heading that is declared last, with its clauses, and whether one of them is missing.
-ghost use Rattle.std.specs.Prelude.{◌≡◌, ◌∷◌, ◌+◌, ◌≤◌, [], ℕ, All, MatchOption, drop, false, length, slice_get};
+ghost use Rattle.std.specs.Prelude.{◌≡◌, ◌∷◌, ◌+◌, ◌≤◌, [], ℕ, All, MatchOption, Some, drop, false, length, slice_get};
 ghost use Rattle.std.specs.List.{flat_map};
-ghost use Rattle.std.specs.Prelude.Some as some;
 ghost use Rattle.syn_theory.specs.declared.decl.Decl.{Decl};
 ghost use Rattle.syn_theory.specs.Declaring as declaring;
 ghost use Rattle.syn_theory.specs.Headings as headings;
@@ -40,7 +39,7 @@ pub(crate) fn arguments_in(decl: &Decl) -> Option<&[Term]>
 fn before_clauses(decls: &[Decl]) -> usize
     ensures within { result ≤ length decls.now }
     ensures clauses { All IsClause (drop result decls.now) }
-    ensures heading { (n : ℕ) (d : Decl) → result ≡ n + 1 → slice_get decls.now n ≡ some d → declaring.is_clause d ≡ false }
+    ensures heading { (n : ℕ) (d : Decl) → result ≡ n + 1 → slice_get decls.now n ≡ Some d → declaring.is_clause d ≡ false }
 {
     let mut n = decls.len();
     while 0 < n {
@@ -72,7 +71,7 @@ pub(crate) fn heading_of<'a>(decls: &'a [Decl]) -> LastHeading<'a>
 
 /// Whether clauses belong to the declaration.
 fn has_clauses(decl: &Decl) -> bool
-    ensures { result ≡ headings.has_clauses (some decl.now) }
+    ensures { result ≡ headings.has_clauses (Some decl.now) }
 {
     matches!(decl, Decl::Fun { .. } | Decl::Rel { .. })
 }

@@ -1,6 +1,5 @@
 // Which clause may come behind which others, and whether its arguments are as the heading asks.
-ghost use Rattle.std.specs.Prelude.{◌≡◌, ◌≢◌, ◌↔◌, ◌≤◌, ◌&&◌, ◌×◌, ◌*◌, ◌^◌, [], ◌∷◌, All, IfSome, IsTrue, map, nat_eq, slice_get};
-ghost use Rattle.std.specs.Prelude.Some as some;
+ghost use Rattle.std.specs.Prelude.{◌≡◌, ◌≢◌, ◌↔◌, ◌≤◌, ◌&&◌, ◌×◌, ◌*◌, ◌^◌, [], ◌∷◌, All, IfSome, IsTrue, Some, map, nat_eq, slice_get};
 ghost use Rattle.std.specs.List.{flat_map};
 ghost use Rattle.std.specs.Option.{option_and_then, option_copied, option_map};
 ghost use Rattle.syn_term.specs.declared.sorts.Kind.TheVariants as kinds;
