@@ -1,12 +1,12 @@
 -- When a term that is a variable or a symbol over variables is sorted, and what its arguments are.
 use Rattle.std.proofs.Common.{◌≡◌, ◌↔◌, Bool, true, IsTrue, List, [], ◌∷◌, All, map, refl, sym, ◌∙◌, ap, subst, rules, get_or}
-use Rattle.std.proofs.lemmas.List.Elements.{All-head, All-tail, All-map}
+use Rattle.std.proofs.lemmas.List.Elements.{All-head, All-tail}
 use denote.Hole.Carrier.{roll}
 use Rattle.syn_term.specs.declared.sorts.Head.TheVariants as head
 use Rattle.syn_term.specs.declared.sorts.SymId.{SymId}
 use Rattle.syn_term.specs.declared.sorts.Var.{Var}
 use Rattle.syn_term.specs.declared.term.Place.{Place}
-use Rattle.syn_term.specs.declared.term.Node.{Node, out-Node, roll-Node, map-Node, every-Node, every_here-Node, every_made-Node}
+use Rattle.syn_term.specs.declared.term.Node.{Node, out-Node, roll-Node, map-Node, every_here-Node, every_made-Node}
 use Rattle.syn_term.specs.declared.term.Node.TheOpen.{Node-F}
 use Rattle.syn_term.specs.declared.term.Node.TheVariants as node
 use Rattle.syn_term.specs.declared.term.Node.TheViews as view
@@ -38,7 +38,7 @@ With P = (t : Node) × P t
 abbrev tree_of : (P : Node → Type 0) → With P → Node
 tree_of P e = e.0
 
-pairs : (P : Node → Type 0) (xs : List Node) → All P xs → List (With P)
+abbrev pairs : (P : Node → Type 0) (xs : List Node) → All P xs → List (With P)
 pairs P [] h = []
 pairs P (x ∷ xs) h = (x, All-head P x xs h) ∷ pairs P xs (All-tail P x xs h)
 
@@ -84,8 +84,7 @@ module _ (table : SymbolTable) where
   -- and whether a symbol over variables is
   pub sorted_test : (t : TermTree) (p : Place) (f : SymId) (args xs : List TermTree) (b : Bool) → t ≡ view.App p f args → xs ≡ args → All IsVariable (args_of t) → (IsTrue b ↔ IsApplication table f xs) → IsTrue b ↔ IsSorted table t
   sorted_test t p f args xs b is same flat test =
-      let variables : All IsVariable args = subst (All IsVariable) (args_of-App t p f args args is refl) flat in
-      (
+      let variables : All IsVariable args = subst (All IsVariable) (args_of-App t p f args args is refl) flat in (
         (λ e. subst (IsSorted table) (sym is) (every-App p f args (subst (IsApplication table f) same (test.0 e)) (variables_sorted args variables))),
         (λ h. test.1 (subst (IsApplication table f) (sym same) (node-App p f args (subst (IsSorted table) is h)))),
       )

@@ -6,7 +6,7 @@ use Rattle.std.proofs.lemmas.List.Elements.{All-nil, All-cons, All-append}
 module _ {X : Type 0} (P : X → Type 0) where
   -- it doesn't hold of all where it doesn't hold of one
   pub fails_at : (xs : List X) (i : ℕ) (d x : X) (b : Bool) → i < length xs → x ≡ get_or xs i d → (IsTrue b ↔ P x) → b ≡ false → IsTrue false ↔ All P xs
-  fails_at xs i d x b lt at test no = ((λ e. absurd (cc)), (λ all. let h : b ≡ true = test.1 (subst P (sym at) (all i d lt)) in absurd (cc)))
+  fails_at xs i d x b lt at test fails = ((λ e. absurd (cc)), (λ all. let h : b ≡ true = test.1 (subst P (sym at) (all i d lt)) in absurd (cc)))
 
   -- it holds of one more
   pub holds_next : (xs : List X) (i : ℕ) (d x : X) (b : Bool) → i < length xs → x ≡ get_or xs i d → (IsTrue b ↔ P x) → b ≡ true → All P (take i xs) → All P (take (i + 1) xs)

@@ -14,7 +14,7 @@ use Rattle.syn_term.proofs.Trees.{fold-App}
 use Rattle.syn_form.specs.Trees.{term_vars, term_vars_step}
 use Rattle.syn_form.proofs.Lists.{all_of-map}
 use Rattle.syn_theory.specs.declared.decl.Decl.{Decl}
-use Rattle.syn_theory.specs.Clauses.{Rest, last_var, turn_of}
+use Rattle.syn_theory.specs.Clauses.{last_var, turn_of}
 use Rattle.syn_theory.specs.Views.{IsClause, clause_args, later}
 use Rattle.syn_theory.proofs.HeadingLaws.{clause_one}
 

@@ -4,7 +4,6 @@ use Rattle.std.specs.List.{flat_map}
 use Rattle.std.specs.Option.{option_copied}
 use Rattle.syn_term.specs.declared.sorts.Head.{Head}
 use Rattle.syn_term.specs.declared.sorts.Head.TheVariants as head
-use Rattle.syn_term.specs.declared.sorts.SymId.{SymId}
 use Rattle.syn_term.specs.declared.sorts.Var.{Var}
 use Rattle.syn_term.specs.Terms.{TermTree}
 use Rattle.syn_theory.specs.declared.decl.Decl.{Decl}
@@ -38,6 +37,7 @@ heading_seen h = record { declared = option_copied h.declared; clauses = flat_ma
 abbrev pub pattern_seen : code_pattern.Pattern → Pattern
 pattern_seen p = record { place = p.place; symbol = p.symbol }
 
+-- and the other way round
 abbrev pub pattern_made : Pattern → code_pattern.Pattern
 pattern_made p = record { place = p.place; symbol = p.symbol }
 
@@ -54,12 +54,14 @@ counted_next patterns.Nothing n (head.Sym f) = patterns.One (record { place = n;
 counted_next (patterns.One p) n (head.Sym f) = patterns.Several p
 counted_next (patterns.Several p) n (head.Sym f) = patterns.Several p
 
+-- what a constructor is for its sort, as the code says it
 abbrev pub role_seen : code_role.Role → Role
 role_seen role.FirstOfTwo = first_of_two
 role_seen role.SecondOfTwo = second_of_two
 role_seen role.OnlyOne = only_one
 role_seen role.NoConstructor = no_constructor
 
+-- where a body may use its symbol, as the code says it
 abbrev pub rest_seen : code_rest.Rest → clauses.Rest
 rest_seen r = record { place = r.place; var = r.var }
 

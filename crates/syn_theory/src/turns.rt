@@ -106,7 +106,12 @@ fn is_second(syms: &Symbols, first: Pattern, second: Pattern) -> bool
 
 /// Whether a clause with this pattern may be the second, and where its body may use the symbol
 /// that it defines.
-fn second_with(syms: &Symbols, args: &[Term], first: Pattern, second: Pattern) -> Option<Option<Rest>>
+fn second_with(
+    syms: &Symbols,
+    args: &[Term],
+    first: Pattern,
+    second: Pattern,
+) -> Option<Option<Rest>>
     ensures { option_map (option_map rest_seen) result ≡ clauses.second_turn syms.now args.now (pattern_seen first ∷ []) (pattern_seen second ∷ []) }
 {
     if !is_second(syms, first, second) {

@@ -1,8 +1,7 @@
 use Rattle.std.proofs.Common.{All}
 use Rattle.syn_term.specs.Terms.{args_of}
-use Rattle.syn_form.specs.Plain.{IsSorted}
 use Rattle.syn_theory.specs.Clauses.{IsVariable}
-use Rattle.syn_theory.proofs.Holding.{fails_at, holds_next, holds_of_all, holds_at}
+use Rattle.syn_theory.proofs.Holding.{fails_at, holds_next, holds_of_all}
 use Rattle.syn_theory.proofs.turns.are_flat.Goals as goal
 
 pub returns-then-not-is_flat : goal.returns-then-not-is_flat

@@ -1,6 +1,5 @@
 use Rattle.std.proofs.Common.{All, take}
 use Rattle.syn_term.specs.Terms.{args_of}
-use Rattle.syn_form.specs.Plain.{IsSorted}
 use Rattle.syn_theory.specs.Clauses.{IsVariable}
 use Rattle.syn_theory.proofs.turns.are_flat.Given as goal
 

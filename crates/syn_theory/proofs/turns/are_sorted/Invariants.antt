@@ -1,7 +1,5 @@
 use Rattle.std.proofs.Common.{All, take}
-use Rattle.syn_term.specs.Terms.{args_of}
 use Rattle.syn_form.specs.Plain.{IsSorted}
-use Rattle.syn_theory.specs.Clauses.{IsVariable}
 use Rattle.syn_theory.proofs.turns.are_sorted.Given as goal
 
 abbrev pub invariant-loop-t : goal.invariant-loop-t
