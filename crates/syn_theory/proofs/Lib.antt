@@ -8,3 +8,9 @@ pub mod Over
 pub mod QFolds
 pub mod Free
 pub mod BoundVars
+pub mod ArgumentLaws
+pub mod HeadingLaws
+pub mod Holding
+pub mod NumberLaws
+pub mod PatternLaws
+pub mod TurnLaws

@@ -7,8 +7,7 @@ use Rattle.syn_term.specs.declared.sorts.Sym.{Sym}
 use Rattle.syn_term.specs.declared.sorts.SymId.{SymId}
 use Rattle.syn_term.specs.declared.sorts.Var.{Var}
 use Rattle.syn_term.specs.Names.{IsName}
-use Rattle.syn_term.specs.Symbols.{SymbolTable, MayAdd, symbol_at}
-use Rattle.syn_term.specs.DeclaredSorts.{MayAddList, MayAddTuple}
+use Rattle.syn_term.specs.Symbols.{SymbolTable, symbol_at}
 use Rattle.syn_term.specs.Terms.{TermTree, sort_of}
 use Rattle.syn_form.specs.declared.trees.Mono.{Mono}
 use Rattle.syn_form.specs.declared.trees.QForm.{fold-QForm}
@@ -24,7 +23,7 @@ use Rattle.syn_theory.specs.declared.uses.Rest.{Rest}
 use Rattle.syn_theory.specs.Clauses.{HasArguments, UsesForm, UsesOut, turn_of}
 use Rattle.syn_theory.specs.Headings.{heading_of, is_whole}
 use Rattle.syn_theory.specs.Parts.{MayBring}
-use Rattle.syn_theory.specs.Tables.{IsDeclared, fun_symbol, monos_of, order_symbol, other_names, rel_symbol, table_of}
+use Rattle.syn_theory.specs.Tables.{IsDeclared, monos_of, other_names, table_of}
 
 -- no axiom and no monotonicity row has the name
 abbrev pub IsOtherwiseFree : List Decl → List ℕ → Type 0

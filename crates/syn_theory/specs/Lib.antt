@@ -4,3 +4,4 @@ pub mod Clauses
 pub mod Parts
 pub mod Declaring
 pub mod Closing
+pub mod Views

@@ -5,9 +5,12 @@
 mod among;
 mod closed;
 mod decl;
+mod headings;
 mod monos;
 mod naming;
+mod patterns;
 mod theory;
+mod turns;
 mod uses;
 
 pub use decl::Decl;

@@ -11,7 +11,7 @@ use syn_term::{Head, Node, SymId, Term, Var};
 /// Where a body may use the symbol that it defines: with this variable at this place, counted from 0.
 #[derive(Clone, Copy, Debug)]
 pub(crate) struct Rest {
-    pub(crate) place: u32,
+    pub(crate) place: usize,
     pub(crate) var: Var,
 }
 
@@ -28,7 +28,7 @@ fn may_use(rest: Option<Rest>, args: &[Term]) -> bool
 {
     match rest {
         None => false,
-        Some(rest) => match at(args, rest.place as usize) {
+        Some(rest) => match at(args, rest.place) {
             None => false,
             Some(t) => is_var(t, rest.var),
         },
