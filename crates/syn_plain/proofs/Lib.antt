@@ -5,3 +5,7 @@ pub mod Sorting
 pub mod Variables
 pub mod SpokenVars
 pub mod Numbering
+pub mod Deciding
+pub mod SortedTerms
+pub mod FormedForms
+pub mod Cuts

@@ -17,7 +17,8 @@ pub fn is_formed_qform(syms: &Symbols, f: &QForm) -> bool
         QForm::True | QForm::False => true,
         QForm::Atom(r, args) => is_formed_atom(syms, *r, args.get().as_slice()),
         QForm::Equal(s, t) => is_formed_equality(syms, s, t),
-        QForm::Not(a) | QForm::All(_, a) | QForm::Exists(_, a) => is_formed_qform(syms, a.get()),
+        QForm::Not(a) => is_formed_qform(syms, a.get()),
+        QForm::All(_, a) | QForm::Exists(_, a) => is_formed_qform(syms, a.get()),
         QForm::And(all) | QForm::Or(all) => is_formed_qchain(syms, all.get().as_slice()),
         QForm::Implies(a, b) => is_formed_qform(syms, a.get()) && is_formed_qform(syms, b.get()),
     }
