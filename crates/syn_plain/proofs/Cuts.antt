@@ -1,5 +1,5 @@
 -- Facts of formulas with quantifiers that say at each case something of the node and the same of the parts.
-use Rattle.std.proofs.Common.{◌≡◌, ◌↔◌, ◌⊎◌, inl, inr, ◌++◌, ◌≤◌, List, [], ◌∷◌, All, map, length, sym, ◌∙◌, ap, subst}
+use Rattle.std.proofs.Common.{◌≡◌, ◌≢◌, ℕ, ◌↔◌, ◌⊎◌, inl, inr, ◌++◌, ◌≤◌, List, [], ◌∷◌, All, map, length, sym, ◌∙◌, ap, subst}
 use Rattle.std.proofs.lemmas.List.Elements.{All-nil, All-cons, All-head, All-tail, All-append}
 use Rattle.syn_term.specs.declared.sorts.SymId.{SymId}
 use Rattle.syn_term.specs.Symbols.{SymbolTable}
@@ -111,11 +111,20 @@ once_cuts = record {
   at_exists = λ b a. ((λ h. (node-Exists _ b a h, part-Exists _ b a h)), (λ h. every-Exists _ b a h.0 h.1));
 }
 
-pub atom_once : (f : QFormTree) (r : SymId) (args : List TermTree) → f ≡ form.Atom r args → BindsOnce f
-atom_once f r args is = subst BindsOnce (sym is) (every-Atom _ r args tt)
+-- a quantifier binds once where its name isn't bound in its formula, and the formula does
+pub binder_once : (f : QFormTree) (b : Binder) (name : List ℕ) (a x y : QFormTree) → (f ≡ view.All b a) ⊎ (f ≡ view.Exists b a) → name ≡ b.name → x ≡ a → y ≡ a → BindsOnce f ↔ IsUnbound name x × BindsOnce y
+binder_once f b name a x y is named first second = subst (λ (z : List ℕ). BindsOnce f ↔ IsUnbound z x × BindsOnce y) (sym named) (binder_cut BindsOnce AnyChain BindsNew once_cuts f b a x y is first second)
 
-pub equality_once : (f : QFormTree) (s t : TermTree) → f ≡ form.Equal s t → BindsOnce f
-equality_once f s t is = subst BindsOnce (sym is) (every-Equal _ s t tt)
+-- what has no parts binds nothing
+pub leaf_once : (f : QFormTree) → (f ≡ form.True) ⊎ ((f ≡ form.False) ⊎ (((r : SymId) × (args : List TermTree) × (f ≡ form.Atom r args)) ⊎ ((s : TermTree) × (t : TermTree) × (f ≡ form.Equal s t)))) → BindsOnce f
+leaf_once f (inl e) = subst BindsOnce (sym e) (every-True _ tt)
+leaf_once f (inr (inl e)) = subst BindsOnce (sym e) (every-False _ tt)
+leaf_once f (inr (inr (inl p))) = subst BindsOnce (sym p.2) (every-Atom _ p.0 p.1 tt)
+leaf_once f (inr (inr (inr p))) = subst BindsOnce (sym p.2) (every-Equal _ p.0 p.1 tt)
+
+-- the binder has another name
+abbrev pub IsOther : List ℕ → Binder → Type 0
+IsOther name b = b.name ≢ name
 
 -- what is said of each binder
 module _ (P : Binder → Type 0) where
@@ -153,9 +162,3 @@ module _ (P : Binder → Type 0) where
     at_all = λ b a. as_listed (view.All b a) (b ∷ binders_of a) (qfold-All binders_step b a) ((λ h. (All-head P b (binders_of a) h, All-tail P b (binders_of a) h)), (λ h. All-cons P b (binders_of a) h.0 h.1));
     at_exists = λ b a. as_listed (view.Exists b a) (b ∷ binders_of a) (qfold-Exists binders_step b a) ((λ h. (All-head P b (binders_of a) h, All-tail P b (binders_of a) h)), (λ h. All-cons P b (binders_of a) h.0 h.1));
   }
-
-  pub atom_binders : (f : QFormTree) (r : SymId) (args : List TermTree) → f ≡ form.Atom r args → OfBinders f
-  atom_binders f r args is = subst (All P) (sym (ap binders_of is ∙ qfold-Atom binders_step r args)) (All-nil P)
-
-  pub equality_binders : (f : QFormTree) (s t : TermTree) → f ≡ form.Equal s t → OfBinders f
-  equality_binders f s t is = subst (All P) (sym (ap binders_of is ∙ qfold-Equal binders_step s t)) (All-nil P)

@@ -9,3 +9,4 @@ pub mod Deciding
 pub mod SortedTerms
 pub mod FormedForms
 pub mod Cuts
+pub mod FreeNames
