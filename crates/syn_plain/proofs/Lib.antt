@@ -10,3 +10,4 @@ pub mod SortedTerms
 pub mod FormedForms
 pub mod Cuts
 pub mod FreeNames
+pub mod PlainTrees
