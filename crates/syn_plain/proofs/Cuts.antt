@@ -1,5 +1,5 @@
 -- Facts of formulas with quantifiers that say at each case something of the node and the same of the parts.
-use Rattle.std.proofs.Common.{◌≡◌, ◌≢◌, ℕ, ◌↔◌, ◌⊎◌, inl, inr, ◌++◌, ◌≤◌, List, [], ◌∷◌, All, map, length, sym, ◌∙◌, ap, subst}
+use Rattle.std.proofs.Common.{◌≡◌, ◌≢◌, ℕ, ◌↔◌, ◌⊎◌, inl, inr, ◌++◌, ◌≤◌, List, [], ◌∷◌, All, map, length, sym, subst}
 use Rattle.std.proofs.lemmas.List.Elements.{All-nil, All-cons, All-head, All-tail, All-append}
 use Rattle.syn_term.specs.declared.sorts.SymId.{SymId}
 use Rattle.syn_term.specs.Symbols.{SymbolTable}
@@ -13,7 +13,7 @@ use Rattle.syn_form.specs.PlainQuantified.{BindsOnce, IsFormedQ, IsUnbound, bind
 use Rattle.syn_form.proofs.Lists.{All-within}
 use Rattle.std.proofs.lemmas.List.Elements.{Contains-append_left, Contains-append_right}
 use Rattle.syn_plain.proofs.Deciding.{second_alone}
-use Rattle.syn_plain.proofs.QForms.{qfold-True, qfold-False, qfold-Atom, qfold-Equal, qfold-Not, qfold-And, qfold-Or, qfold-Implies, qfold-All, qfold-Exists}
+use Rattle.syn_plain.proofs.QForms.{qfold-True, qfold-False, qfold-Not, qfold-And, qfold-Or, qfold-Implies, qfold-All, qfold-Exists}
 use Rattle.syn_plain.proofs.QNodes.{every-True, every-False, every-Atom, every-Equal, every-Not, every-And, every-Or, every-Implies, every-All, every-Exists, node-Atom, node-Equal, node-And, node-Or, node-All, node-Exists, part-Not, parts-And, parts-Or, parts-Implies, part-All, part-Exists}
 
 -- the fact, what it says of a chain, and what it says of a binder and its formula

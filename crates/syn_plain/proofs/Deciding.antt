@@ -1,6 +1,6 @@
 -- What a test's answer says where the fact is made of two, and tests of each item of a list in turn.
 use Rattle.std.proofs.Common.{◌≡◌, ◌↔◌, ℕ, ◌+◌, ◌<◌, ◌≤◌, Bool, true, false, IsTrue, List, All, length, take, get_or, refl, sym, ◌∙◌, subst, true≢false}
-use Rattle.std.proofs.lemmas.List.{take_all, get_or_default}
+use Rattle.std.proofs.lemmas.List.{take_all}
 use Rattle.std.proofs.lemmas.List.Elements.{All-more}
 
 -- the test is passed, and so is another in its place

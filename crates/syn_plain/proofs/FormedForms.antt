@@ -65,6 +65,7 @@ module _ (table : SymbolTable) (o : OutTree) where
     where
       test : x ≡ u → y ≡ v → given_sort table u ≡ given_sort table v → given_sort table x ≡ given_sort table y
       test b c k = cc
+
       back : x ≡ u → y ≡ v → given_sort table x ≡ given_sort table y → given_sort table u ≡ given_sort table v
       back b c k = cc
 

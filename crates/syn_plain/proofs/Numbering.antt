@@ -1,8 +1,8 @@
 -- When binders are numbered in order, from the numbers of parts of them, and the number after theirs.
-use Rattle.std.proofs.Common.{◌≡◌, ◌⊎◌, inl, inr, ℕ, ◌+◌, ◌<◌, ◌≤◌, List, [], ◌∷◌, ◌++◌, MatchOption, Option, None, Some, length, length-append, map, take, drop, get_or, refl, sym, ◌∙◌, ap, subst, arith}
+use Rattle.std.proofs.Common.{◌≡◌, ◌⊎◌, inl, inr, ℕ, ◌+◌, ◌<◌, List, [], ◌∷◌, ◌++◌, MatchOption, Option, None, Some, length, length-append, take, drop, get_or, refl, sym, ◌∙◌, ap, subst, arith}
 use Rattle.std.specs.List.{flat_map}
 use Rattle.std.proofs.lemmas.Grind.{flat_map-append}
-use Rattle.std.proofs.lemmas.List.{append-nil, take-append-drop, take_all, take_more}
+use Rattle.std.proofs.lemmas.List.{append-nil, take-append-drop, take_more}
 use Rattle.syn_form.specs.declared.trees.Binder.{Binder}
 use Rattle.syn_form.specs.declared.trees.QForm.TheViews as view
 use Rattle.syn_form.specs.PlainQuantified.{binders_of, binders_step}

@@ -54,13 +54,13 @@ module _ (P : Var → Type 0) where
   two_held : (bs cs : List Binder) (ss ts : List TermTree) (vs ws : List Var) → HeldAt bs ss vs → HeldAt cs ts ws → HeldAt (bs ++ cs) (ss ++ ts) (vs ++ ws)
   two_held bs cs ss ts vs ws h k = (
     (λ p.
-      let b : All P (bound bs ++ bound cs) = subst (All P) (map-append var_of bs cs) p.0 in
-      let u : All P (used ss ++ used ts) = subst (All P) (flat_map-append term_vars ss ts) p.1 in
-      All-append P vs ws (h.0 (front (bound bs) (bound cs) b, front (used ss) (used ts) u)) (k.0 (back (bound bs) (bound cs) b, back (used ss) (used ts) u))),
+        let b : All P (bound bs ++ bound cs) = subst (All P) (map-append var_of bs cs) p.0 in
+        let u : All P (used ss ++ used ts) = subst (All P) (flat_map-append term_vars ss ts) p.1 in
+        All-append P vs ws (h.0 (front (bound bs) (bound cs) b, front (used ss) (used ts) u)) (k.0 (back (bound bs) (bound cs) b, back (used ss) (used ts) u))),
     (λ w.
-      let p = h.1 (front vs ws w) in
-      let q = k.1 (back vs ws w) in
-      (subst (All P) (sym (map-append var_of bs cs)) (All-append P (bound bs) (bound cs) p.0 q.0), subst (All P) (sym (flat_map-append term_vars ss ts)) (All-append P (used ss) (used ts) p.1 q.1))),
+        let p = h.1 (front vs ws w) in
+        let q = k.1 (back vs ws w) in
+        (subst (All P) (sym (map-append var_of bs cs)) (All-append P (bound bs) (bound cs) p.0 q.0), subst (All P) (sym (flat_map-append term_vars ss ts)) (All-append P (used ss) (used ts) p.1 q.1))),
   )
 
   all_held : (fs : List QFormTree) → All Held fs → HeldAt (all_of (map binders_of fs)) (all_of (map qform_terms fs)) (all_of (map qform_vars fs))

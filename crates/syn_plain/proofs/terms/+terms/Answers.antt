@@ -1,4 +1,4 @@
-use Rattle.std.proofs.Common.{refl, sym, ◌∙◌}
+use Rattle.std.proofs.Common.{sym, ◌∙◌}
 use Rattle.syn_form.specs.Plain.{IsSorted}
 use Rattle.syn_plain.proofs.Deciding.{all_more, all_whole, fails, holds, not_all, unless_first, when_first}
 use Rattle.syn_plain.proofs.SortedTerms.{application_sorted, variable_sorted}
