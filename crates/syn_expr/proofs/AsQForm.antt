@@ -29,7 +29,8 @@ use Rattle.syn_expr.specs.Readable.{CanReadForm, CanReadFormNode, CanReadLeaf, C
 use Rattle.syn_form.proofs.Equations.{fold-True, fold-False, fold-Atom, fold-Equal, fold-Not, fold-And, fold-Or, fold-Implies, out-Atom}
 use Rattle.syn_form.proofs.Induction.{by_forms}
 use Rattle.syn_form.proofs.Nodes.{node-Equal, node-chain, part-Not, parts-chain, parts-Implies}
-use Rattle.syn_expr.proofs.QForms.{qfold-True, qfold-False, qfold-Atom, qfold-Equal, qfold-Not, qfold-And, qfold-Or, qfold-Implies}
+use Rattle.syn_plain.proofs.QNodes.{every-True, every-False, every-Atom, every-Equal, every-Not, every-And, every-Or, every-Implies}
+use Rattle.syn_plain.proofs.QForms.{qfold-True, qfold-False, qfold-Atom, qfold-Equal, qfold-Not, qfold-And, qfold-Or, qfold-Implies}
 use Rattle.syn_expr.proofs.TreeReadings.{as_qform, as_qform_step}
 use Rattle.syn_expr.proofs.Unquantifying.{unquantified_bare}
 
@@ -62,56 +63,6 @@ as-Implies = fold-Implies as_qform_step
 all_along : {A B : Type 0} (P : A → Type 0) (Q : B → Type 0) (g : A → B) (xs : List A) → All (λ x. P x → Q (g x)) xs → All P xs → All Q (map g xs)
 all_along P Q g [] h k = All-nil Q
 all_along P Q g (x ∷ xs) h k = All-cons Q (g x) (map g xs) (All-head (λ x. P x → Q (g x)) x xs h (All-head P x xs k)) (all_along P Q g xs (All-tail (λ x. P x → Q (g x)) x xs h) (All-tail P x xs k))
-
--- the members as pairs
-abbrev With : (QFormTree → Type 0) → Type 0
-With P = (f : QFormTree) × P f
-
-abbrev tree_of : (P : QFormTree → Type 0) → With P → QFormTree
-tree_of P e = e.0
-
-pairs : (P : QFormTree → Type 0) (all : List QFormTree) → All P all → List (With P)
-pairs P [] h = []
-pairs P (f ∷ fs) h = (f, All-head P f fs h) ∷ pairs P fs (All-tail P f fs h)
-
-pairs_are : (P : QFormTree → Type 0) (all : List QFormTree) (h : All P all) → map (tree_of P) (pairs P all h) ≡ all
-unfolding pairs
-pairs_are P [] h = refl
-pairs_are P (f ∷ fs) h = ap (λ (zs : List QFormTree). f ∷ zs) (pairs_are P fs (All-tail P f fs h))
-
--- how a fact of each node is put together
-module _ (Q : QForm-F QFormTree → Type 0) where
-  every-True : Q QForm-F.True → every-QForm Q qform.True
-  unfolding roll-QForm roll
-  every-True q = every_made-QForm Q QForm-F.True QForm-F.True refl q
-
-  every-False : Q QForm-F.False → every-QForm Q qform.False
-  unfolding roll-QForm roll
-  every-False q = every_made-QForm Q QForm-F.False QForm-F.False refl q
-
-  every-Atom : (r : SymId) (args : List TermTree) → Q (QForm-F.Atom r args) → every-QForm Q (qform.Atom r args)
-  unfolding roll-QForm roll
-  every-Atom r args q = every_made-QForm Q (QForm-F.Atom r args) (QForm-F.Atom r args) refl q
-
-  every-Equal : (s t : TermTree) → Q (QForm-F.Equal s t) → every-QForm Q (qform.Equal s t)
-  unfolding roll-QForm roll
-  every-Equal s t q = every_made-QForm Q (QForm-F.Equal s t) (QForm-F.Equal s t) refl q
-
-  every-Not : (a : QFormTree) → Q (QForm-F.Not a) → every-QForm Q a → every-QForm Q (qview.Not a)
-  unfolding roll-QForm roll
-  every-Not a q h = every_made-QForm Q (QForm-F.Not a) (QForm-F.Not (a, h)) refl q
-
-  every-Implies : (a b : QFormTree) → Q (QForm-F.Implies a b) → every-QForm Q a → every-QForm Q b → every-QForm Q (qview.Implies a b)
-  unfolding roll-QForm roll
-  every-Implies a b q h k = every_made-QForm Q (QForm-F.Implies a b) (QForm-F.Implies (a, h) (b, k)) refl q
-
-  every-And : (all : List QFormTree) → Q (QForm-F.And all) → All (every-QForm Q) all → every-QForm Q (qview.And all)
-  unfolding roll-QForm roll
-  every-And all q h = every_made-QForm Q (QForm-F.And all) (QForm-F.And (pairs (every-QForm Q) all h)) (ap (λ (zs : List QFormTree). QForm-F.And zs) (pairs_are (every-QForm Q) all h)) q
-
-  every-Or : (all : List QFormTree) → Q (QForm-F.Or all) → All (every-QForm Q) all → every-QForm Q (qview.Or all)
-  unfolding roll-QForm roll
-  every-Or all q h = every_made-QForm Q (QForm-F.Or all) (QForm-F.Or (pairs (every-QForm Q) all h)) (ap (λ (zs : List QFormTree). QForm-F.Or zs) (pairs_are (every-QForm Q) all h)) q
 
 two_still : (all : List FormTree) → 2 ≤ length all → 2 ≤ length (map as_qform all)
 two_still all h = subst (λ n. 2 ≤ n) (sym (length-map all as_qform)) h

@@ -39,10 +39,12 @@ use Rattle.syn_form.proofs.Owned.{All-left, All-right}
 use Rattle.syn_expr.proofs.BackTerms.{name_not_reserved, sort_back, term_back, terms_back}
 use Rattle.syn_expr.proofs.FormMaking.{both, under}
 use Rattle.syn_expr.proofs.FormSyntaxes.{fold-And, fold-Atom, fold-Equal, fold-False, fold-Implies, fold-Not, fold-Or, fold-Quantified, fold-True}
-use Rattle.syn_expr.proofs.QForms.{by_qform_cases, qfold-All, qfold-And, qfold-Atom, qfold-Equal, qfold-Exists, qfold-False, qfold-Implies, qfold-Not, qfold-Or, qfold-True}
-use Rattle.syn_expr.proofs.QNodes.{node-And, node-Atom, node-Equal, node-Or, part-All, part-Exists, part-Not, parts-And, parts-Implies, parts-Or}
+use Rattle.syn_plain.specs.Numbers.{AreFrom}
+use Rattle.syn_plain.proofs.Numbering.{numbers_split}
+use Rattle.syn_plain.proofs.QForms.{by_qform_cases, qfold-All, qfold-And, qfold-Atom, qfold-Equal, qfold-Exists, qfold-False, qfold-Implies, qfold-Not, qfold-Or, qfold-True}
+use Rattle.syn_plain.proofs.QNodes.{node-And, node-Atom, node-Equal, node-Or, part-All, part-Exists, part-Not, parts-And, parts-Implies, parts-Or}
 use Rattle.syn_expr.proofs.ReadSorts.{one_sort, sort_there}
-use Rattle.syn_expr.proofs.Sorting.{makes_atom_bare, makes_atom_of, sort_bare}
+use Rattle.syn_plain.proofs.Sorting.{makes_atom_bare, makes_atom_of, sort_bare}
 use Rattle.syn_expr.proofs.TreeReadings.{FormWritten, and_written, conj_on, disj_on, or_written, qform_written, qform_written_step, quantified_written, term_written}
 
 -- what a formula is printed from stands for the same as a whole and inside another
@@ -94,21 +96,6 @@ or_is : (ws : List FormWritten) → 2 ≤ length ws → syntax_of_form (or_writt
 or_is [] few = absurd (omega arith)
 or_is (w ∷ []) few = absurd (omega arith)
 or_is (w ∷ v ∷ ws) few = disj_whole (one_conj (one_unary w.inside)) v ws
-
--- the binders have the numbers from n on
-abbrev pub AreFrom : ℕ → List Binder → Type 0
-AreFrom n bs = map (λ b. b.var.number) bs ≡ range_with_len n (length bs)
-
--- where those of two lists one after another have, those of each have
-pub numbers_split : (n : ℕ) (xs ys : List Binder) → AreFrom n (xs ++ ys) → AreFrom n xs × AreFrom (n + length xs) ys
-numbers_split n [] ys e = let k : n + 0 ≡ n = omega arith in (refl, subst (λ (z : ℕ). AreFrom z ys) (sym k) e)
-numbers_split n (x ∷ xs) ys e =
-    let first : x.var.number ≡ n = cc in
-    let rest : AreFrom (n + 1) (xs ++ ys) = cc in
-    let r = numbers_split (n + 1) xs ys rest in
-    let a : AreFrom (n + 1) xs = r.0 in
-    let k : (n + 1) + length xs ≡ n + length (x ∷ xs) = omega arith in
-    (cc, subst (λ (z : ℕ). AreFrom z ys) k r.1)
 
 -- a sort that can be read is that of a binder with the text that it is printed as
 pub binder_back : (table : SymbolTable) (s : Sort) → CanReadSort table s → binder_sort table (sort_text table s) ≡ Some s

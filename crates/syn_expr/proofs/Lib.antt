@@ -4,7 +4,6 @@ pub mod FormTexts
 pub mod QFormTexts
 pub mod Finding
 pub mod Growth
-pub mod Sorting
 pub mod TermMaking
 pub mod Options
 pub mod TermSyntaxes
@@ -12,14 +11,12 @@ pub mod Deepest
 pub mod FormSyntaxes
 pub mod Levels
 pub mod TermCounts
-pub mod QForms
 pub mod FormMaking
 pub mod Weights
 pub mod Unquantifying
 pub mod OutMaking
 pub mod FormCounts
 pub mod PlainCounts
-pub mod Variables
 pub mod ProperTrees
 pub mod Owning
 pub mod Fitting
@@ -29,8 +26,6 @@ pub mod Taking
 pub mod Stands
 pub mod Readers
 pub mod TreeReadings
-pub mod TermNodes
-pub mod QNodes
 pub mod Puts
 pub mod TermPuts
 pub mod FormPuts
@@ -39,5 +34,4 @@ pub mod BackTerms
 pub mod BackForms
 pub mod AsQForm
 pub mod BareCounts
-pub mod SpokenVars
 pub mod ReadsBack

@@ -1,10 +1,7 @@
 -- Steps of the making of trees from syntax trees.
 use Rattle.std.specs.Prelude.{ℕ, List, [], ◌∷◌, Option, None, Some, codes, map, if◌then◌else◌}
 use Rattle.std.specs.Option.{option_and_then, option_map}
-use Rattle.syn_term.specs.declared.sorts.Sort.{Sort}
-use Rattle.syn_term.specs.declared.sorts.Head.{Head}
-use Rattle.syn_term.specs.declared.sorts.Head.TheVariants as head
-use Rattle.syn_term.specs.Symbols.{SymbolTable, symbol_at}
+use Rattle.syn_term.specs.Symbols.{SymbolTable}
 use Rattle.syn_term.specs.Terms.{TermTree}
 use Rattle.syn_term.specs.declared.sorts.Var.{Var}
 use Rattle.syn_form.specs.declared.syntax.BinderSyntax.{BinderSyntax}
@@ -16,11 +13,6 @@ use Rattle.syn_form.specs.Trees.{QFormTree}
 -- `s` over a term
 abbrev pub next_tree : SymbolTable → TermTree → Option TermTree
 next_tree table t = option_and_then (sorted_application table (t ∷ [])) (symbol_named table (codes "s"))
-
--- the sort of a term with this at its top
-abbrev pub head_sort : SymbolTable → Head → Option Sort
-head_sort table (head.Var v) = Some v.sort
-head_sort table (head.Sym f) = option_and_then (λ s. s.result) (symbol_at table f)
 
 -- the variable of a binder, where its name may be bound and its sort is there
 abbrev pub binder_var : TextScope → ℕ → BinderSyntax → Option Var

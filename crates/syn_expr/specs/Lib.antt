@@ -2,7 +2,6 @@ pub mod Scopes
 pub mod Places
 pub mod Elaborating
 pub mod Limits
-pub mod Sorted
 pub mod Proper
 pub mod Belonging
 pub mod Accepting

@@ -15,11 +15,11 @@ use crate::elaborate_term::elaborate_term;
 use crate::limits::{form_cost, form_levels, out_cost, out_levels, term_cost, term_levels};
 use crate::names::outside;
 use crate::scope::Scope;
-use crate::vars::{
-    form_has_one_sort_each, out_has_one_sort_each, qform_has_one_sort_each, term_has_one_sort_each,
-};
 use std::alloc::Global;
 use syn_form::{Form, FormSyntax, Out, OutSyntax, QForm, TermSyntax};
+use syn_plain::{
+    form_has_one_sort_each, out_has_one_sort_each, qform_has_one_sort_each, term_has_one_sort_each,
+};
 use syn_term::{Bank, NoMemory, Term};
 
 /// Whether a term of the syntax tree would have at most so many nodes, and be at most so deep.

@@ -11,10 +11,10 @@ ghost use Rattle.syn_expr.specs.Places.{spoken_at};
 use crate::elaborate_form::elaborate_form;
 use crate::elaborate_term::elaborate_term;
 use crate::names::Inside;
-use crate::sorts::{are_of_one_sort, sort_in};
 use crate::unquantified::without_quantifiers;
 use std::alloc::Global;
 use syn_form::{Form, FormSyntax, Out, OutSyntax};
+use syn_plain::{are_of_one_sort, given_sort};
 use syn_term::{Bank, NoMemory, Shared, Sort, Symbols};
 
 /// The formula without quantifiers that the syntax tree stands for; None where it stands for none.
@@ -33,16 +33,6 @@ pub(crate) fn elaborate_plain(
     match elaborate_form(alloc, bank, place, 1, syntax)? {
         None => Ok(None),
         Some((f, _)) => without_quantifiers(alloc, &f),
-    }
-}
-
-/// The sort of the term that the output gives, by its first arm.
-fn given_sort(syms: &Symbols, o: &Out) -> Option<Sort>
-    ensures { result ≡ plain.given_sort syms.now o.now }
-{
-    match o {
-        Out::Give(t) => sort_in(syms, t),
-        Out::If(_, u, _) => given_sort(syms, u.get()),
     }
 }
 

@@ -15,10 +15,10 @@ ghost use Rattle.syn_expr.specs.Places.{spoken_at};
 use crate::elaborate_term::elaborate_term;
 use crate::lookups::symbol_named;
 use crate::names::Inside;
-use crate::sorts::{are_of_one_sort, is_atom, sort_in};
 use sqlite_items::Items;
 use std::alloc::Global;
 use syn_form::{Binder, QForm, Quantifier, TermSyntax};
+use syn_plain::{are_of_one_sort, is_atom, sort_in};
 use syn_term::{Bank, NoMemory, Shared, SymId, Symbols, Term, Text};
 
 /// The terms that the syntax trees stand for; None where one stands for none.

@@ -19,10 +19,8 @@ mod print_qforms;
 mod print_terms;
 mod read;
 mod scope;
-mod sorts;
 mod text;
 mod unquantified;
-mod vars;
 
 pub use error::ExprError;
 pub use print_forms::print_form;

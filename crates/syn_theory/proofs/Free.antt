@@ -17,7 +17,7 @@ use Rattle.syn_form.specs.Trees.{QFormTree, term_vars}
 use Rattle.syn_form.proofs.Lists.{Contains-cons_cases, Contains-head, Contains-tail, all_of-map, none_in_nil}
 use Rattle.syn_theory.specs.Declaring.{AreAmong, free_vars, free_vars_step, without}
 use Rattle.syn_theory.proofs.Over.{all_along, all_of_none, all_of_pieces, all_of_two}
-use Rattle.syn_theory.proofs.QFolds.{qfold-True, qfold-False, qfold-Atom, qfold-Equal, qfold-Not, qfold-And, qfold-Or, qfold-Implies, qfold-All, qfold-Exists}
+use Rattle.syn_plain.proofs.QForms.{qfold-True, qfold-False, qfold-Atom, qfold-Equal, qfold-Not, qfold-And, qfold-Or, qfold-Implies, qfold-All, qfold-Exists}
 
 same_sort_to : (r s : Sort) → same_sort r s ≡ true → r ≡ s
 same_sort_to sort.Nat sort.Nat h = refl

@@ -1,11 +1,9 @@
 pub mod Pieces
 pub mod Taken
 pub mod Brings
-pub mod TermNodes
 pub mod Deciding
 pub mod Using
 pub mod Over
-pub mod QFolds
 pub mod Free
 pub mod BoundVars
 pub mod ArgumentLaws

@@ -19,7 +19,7 @@ use Rattle.syn_form.proofs.Equations.{out-Atom, out-Give}
 use Rattle.syn_form.proofs.Nodes.{node-Equal, node-If, part-Not, parts-chain, parts-If, parts-Implies, every-True, every-False, every-Atom, every-Equal, every-Not, every-Implies, every-chain, every-Give, every-If}
 use Rattle.syn_theory.specs.declared.uses.Rest.{Rest}
 use Rattle.syn_theory.specs.Clauses.{MayUse, UsesForm, UsesFormNode, UsesNode, UsesOut, UsesOutNode, UsesTerm}
-use Rattle.syn_theory.proofs.TermNodes.{node-App, parts-App, every-Var, every-App}
+use Rattle.syn_plain.proofs.TermNodes.{node-App, parts-App, every-Var, every-App}
 
 -- a fact of something holds of what it is
 both : {A : Type 0} (P : A → Type 0) (X : Type 0) (x y : A) → x ≡ y → (X → P y) → (P y → X) → X ↔ P x

@@ -16,7 +16,8 @@ use crate::headings::arguments_in;
 use crate::patterns::{Pattern, Patterns, Role, patterns_in, role_of};
 use crate::uses::Rest;
 use sqlite_items::at;
-use syn_term::{Head, Kind, Node, Sort, SymId, Symbols, Term, Var};
+use syn_plain::{are_sorted, have_sorts};
+use syn_term::{Head, Node, Sort, Symbols, Term, Var};
 
 /// Whether the pattern of a first clause may be this for its sort.
 fn begins_with(role: Role) -> bool
@@ -150,59 +151,6 @@ pub(crate) fn turn_of(syms: &Symbols, earlier: &[Decl], args: &[Term]) -> Option
     }
 }
 
-/// The sort of the term, None where its symbol isn't in the table or has no result.
-fn sort_in(syms: &Symbols, t: &Term) -> Option<Sort>
-    ensures { result ≡ sort_of syms.now t.now }
-{
-    match t.get() {
-        Node::Var(_, v) => Some(v.sort),
-        Node::App(_, f, _) => match syms.get(*f) {
-            None => None,
-            Some(sym) => sym.result,
-        },
-    }
-}
-
-/// Whether the term has this sort.
-fn has_sort(syms: &Symbols, t: &Term, sort: Sort) -> bool
-    ensures { IsTrue result ↔ (sort_of syms.now t.now ≡ Some sort) }
-{
-    sort_in(syms, t) == Some(sort)
-}
-
-/// Whether the terms have these sorts, one for one.
-fn have_sorts(syms: &Symbols, terms: &[Term], sorts: &[Sort]) -> bool
-    ensures { IsTrue result ↔ (map (sort_of syms.now) terms.now ≡ map Some sorts.now) }
-{
-    if terms.len() != sorts.len() {
-        return false;
-    }
-    for i in 0..terms.len() {
-        let sort = sorts[i];
-        if !has_sort(syms, &terms[i], sort) {
-            return false;
-        }
-    }
-    true
-}
-
-/// Whether symbols of this kind stand in terms.
-fn is_applied(kind: Kind) -> bool
-    ensures { IsTrue result ↔ (kind ≢ kinds.Rel) × (kind ≢ kinds.Order) }
-{
-    !matches!(kind, Kind::Rel | Kind::Order)
-}
-
-/// Whether the symbol may be applied to the arguments.
-fn is_application(syms: &Symbols, f: SymId, args: &[Term]) -> bool
-    ensures { IsTrue result ↔ IsApplication syms.now f args.now }
-{
-    match syms.get(f) {
-        None => false,
-        Some(sym) => is_applied(sym.kind) && have_sorts(syms, args, sym.args.as_slice()),
-    }
-}
-
 /// Whether the term is a variable.
 fn is_variable(t: &Term) -> bool
     ensures { IsTrue result ↔ IsVariable t.now }
@@ -238,30 +186,6 @@ fn are_flat(terms: &[Term]) -> bool
 {
     for t in terms {
         if !is_flat(t) {
-            return false;
-        }
-    }
-    true
-}
-
-/// Whether the symbol of the term has arguments of its sorts.
-fn is_sorted(syms: &Symbols, t: &Term) -> bool
-    requires { All IsVariable (args_of t.now) }
-    ensures { IsTrue result ↔ IsSorted syms.now t.now }
-{
-    match t.get() {
-        Node::Var(_, _) => true,
-        Node::App(_, f, args) => is_application(syms, *f, args.as_slice()),
-    }
-}
-
-/// Whether the symbol of each term has arguments of its sorts.
-fn are_sorted(syms: &Symbols, terms: &[Term]) -> bool
-    requires { All (λ t. All IsVariable (args_of t)) terms.now }
-    ensures { IsTrue result ↔ All (IsSorted syms.now) terms.now }
-{
-    for t in terms {
-        if !is_sorted(syms, t) {
             return false;
         }
     }

@@ -1,0 +1,13 @@
+pub mod QForms
+pub mod QNodes
+pub mod TermNodes
+pub mod Sorting
+pub mod Variables
+pub mod SpokenVars
+pub mod Numbering
+pub mod Deciding
+pub mod SortedTerms
+pub mod FormedForms
+pub mod Cuts
+pub mod FreeNames
+pub mod PlainTrees
