@@ -1,17 +1,20 @@
 -- Which declaration may follow which others: what a theory is.
-use Rattle.std.specs.Prelude.{◌≡◌, ◌≢◌, ℕ, ◌≤◌, ◌-◌, Bool, true, false, List, [], ◌∷◌, ◌++◌, Option, None, Some, All, Contains, if◌then◌else◌, length, slice_get}
+use Rattle.std.specs.Prelude.{◌≡◌, ◌≢◌, ℕ, ◌≤◌, ◌-◌, Bool, true, false, List, [], ◌∷◌, ◌++◌, Option, None, Some, All, Contains, if◌then◌else◌, length, position, slice_get}
 use Rattle.std.specs.List.{flat_map}
+use Rattle.std.specs.Option.{option_map}
+use Rattle.std.specs.Str.{bytes_eq}
 use Rattle.syn_term.specs.declared.sorts.Sort.{Sort}
 use Rattle.syn_term.specs.declared.sorts.Sort.TheVariants as sort
 use Rattle.syn_term.specs.declared.sorts.Sym.{Sym}
 use Rattle.syn_term.specs.declared.sorts.SymId.{SymId}
 use Rattle.syn_term.specs.declared.sorts.Var.{Var}
 use Rattle.syn_term.specs.Names.{IsName}
-use Rattle.syn_term.specs.Symbols.{SymbolTable, symbol_at}
+use Rattle.syn_term.specs.Symbols.{SymbolTable, symbol_at, names_of}
 use Rattle.syn_term.specs.Terms.{TermTree, sort_of}
 use Rattle.syn_form.specs.declared.trees.Mono.{Mono}
 use Rattle.syn_form.specs.declared.trees.QForm.{fold-QForm}
 use Rattle.syn_form.specs.declared.trees.QForm.TheOpen.{QForm-F}
+use Rattle.syn_form.specs.Elaboration.{sym_id}
 use Rattle.syn_form.specs.Plain.{IsSorted, IsPlainForm, IsPlainOut, given_sort}
 use Rattle.syn_form.specs.PlainQuantified.{IsPlainQForm, binders_of}
 use Rattle.syn_form.specs.Sorts.{is_relation}
@@ -102,9 +105,9 @@ pub record MayMono (ds : List Decl) (name : List ℕ) (m : Mono) : Type 0 where
   pub mono : IsMono (table_of ds) m
   pub new : All (λ o. (o.rel ≡ m.rel) × (o.sym ≡ m.sym) × (o.place ≡ m.place) → ⊥) (monos_of ds)
 
--- the number of the symbol that was added last
-abbrev pub last_symbol : SymbolTable → SymId
-last_symbol table = record { 0 = length table.syms - 1 }
+-- the symbol with the name
+abbrev pub symbol_of_name : SymbolTable → List ℕ → Option SymId
+symbol_of_name table name = option_map sym_id (position (bytes_eq name) (names_of table))
 
 -- each of these variables is one of those
 abbrev pub AreAmong : List Var → List Var → Type 0
@@ -115,26 +118,30 @@ pub record MayFunClause (ds : List Decl) (args : List TermTree) (body : OutTree)
   pub name : List ℕ
   pub sorts : List Sort
   pub result : Sort
+  pub own : SymId
   pub rest : Option Rest
   pub heading : (heading_of ds).declared ≡ Some (decl.Fun name sorts result)
+  pub defined : symbol_of_name (table_of ds) name ≡ Some own
   pub turn : turn_of (table_of ds) (heading_of ds).clauses args ≡ Some rest
   pub arguments : HasArguments (table_of ds) sorts args
   pub plain : IsPlainOut (table_of ds) body
   pub sort : given_sort (table_of ds) body ≡ Some result
   pub over : AreAmong (out_vars body) (flat_map term_vars args)
-  pub uses : UsesOut (last_symbol (table_of ds)) rest body
+  pub uses : UsesOut own rest body
 
 -- a clause of the relation declared last
 pub record MayRelClause (ds : List Decl) (args : List TermTree) (body : FormTree) : Type 0 where
   pub name : List ℕ
   pub sorts : List Sort
+  pub own : SymId
   pub rest : Option Rest
   pub heading : (heading_of ds).declared ≡ Some (decl.Rel name sorts)
+  pub defined : symbol_of_name (table_of ds) name ≡ Some own
   pub turn : turn_of (table_of ds) (heading_of ds).clauses args ≡ Some rest
   pub arguments : HasArguments (table_of ds) sorts args
   pub plain : IsPlainForm (table_of ds) body
   pub over : AreAmong (form_vars body) (flat_map term_vars args)
-  pub uses : UsesForm (last_symbol (table_of ds)) rest body
+  pub uses : UsesForm own rest body
 
 -- what a declaration asks besides that the table may take what it brings
 abbrev pub Asks : List Decl → Decl → Type 0
