@@ -12,3 +12,4 @@ pub mod Holding
 pub mod NumberLaws
 pub mod PatternLaws
 pub mod TurnLaws
+pub mod Keeping

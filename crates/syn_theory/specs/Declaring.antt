@@ -171,6 +171,7 @@ pub record MayDeclare (ds : List Decl) (d : Decl) : Type 0 where
   pub asks : Asks ds d
   pub in_time : ComesInTime ds (is_clause d)
 
--- each declaration may follow those before it
-abbrev pub IsTheory : List Decl → Type 0
-IsTheory ds = (before : List Decl) (d : Decl) (behind : List Decl) → ds ≡ before ++ d ∷ behind → MayDeclare before d
+-- a theory: nothing is declared, or one declaration more that may follow the others
+pub data IsTheory : List Decl → Type 0 where
+  nothing : IsTheory []
+  one_more : (ds : List Decl) (d : Decl) → IsTheory ds → MayDeclare ds d → IsTheory (ds ++ d ∷ [])

@@ -5,3 +5,4 @@ pub mod Parts
 pub mod Declaring
 pub mod Closing
 pub mod Views
+pub mod Keeping

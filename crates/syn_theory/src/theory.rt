@@ -1,13 +1,16 @@
 // A theory: its declarations, and the table of symbols that they make.
-ghost use Rattle.std.specs.Prelude.{◌≡◌, ◌↔◌, ◌++◌, [], ◌∷◌, Err, IfOk, OnErr};
+ghost use Rattle.std.specs.Prelude.{◌≡◌, ◌↔◌, ◌++◌, [], ◌∷◌, Err, IfOk, OnErr, OnOk};
 ghost use Rattle.syn_term.specs.Names.{IsName};
 ghost use Rattle.syn_term.specs.Symbols.{MayAdd, with_symbol};
 ghost use Rattle.syn_term.specs.DeclaredSorts.{MayAddList, MayAddTuple, with_list, with_tuple};
+ghost use Rattle.syn_theory.specs.Declaring.{Asks, ComesInTime, IsTheory, MayDeclare, is_clause};
+ghost use Rattle.syn_theory.specs.Headings as headings;
 ghost use Rattle.syn_theory.specs.Parts.{MayBring, Steps, bare_theory, with_decl};
 ghost use Rattle.syn_theory.specs.Tables.{fun_symbol, order_symbol, rel_symbol, table_after, table_of};
 ghost use Rattle.syn_theory.specs.declared.theory.DeclError.TheVariants as error;
 
 use crate::decl::Decl;
+use crate::headings::is_whole;
 use sqlite_items::Items;
 use std::alloc::Global;
 use std::marker::Model;
@@ -42,9 +45,8 @@ pub struct Theory {
 }
 
 impl Model for Theory {
-    ghost use Rattle.std.specs.Prelude.{◌≡◌};
+    ghost use Rattle.syn_theory.specs.Keeping.{IsKept};
     ghost use Rattle.syn_theory.specs.Parts.{TheoryParts};
-    ghost use Rattle.syn_theory.specs.Tables.{table_of};
     ghost use Rattle.syn_theory.specs.contracts.decl.Decl as decl;
     ghost use Rattle.std.specs.Coded.{codes};
 
@@ -54,7 +56,7 @@ impl Model for Theory {
 
     ghost view = { λ t. record { name = t.name; decls = t.decls } };
 
-    ghost invariant = { λ t. t.syms ≡ table_of t.decls };
+    ghost invariant = { λ t. IsKept t.syms t.decls };
 }
 
 // Adds the symbol. Whether it may be added is the answer.
@@ -210,7 +212,8 @@ impl Theory {
 
     /// The declarations, in the order in which they came.
     pub fn decls(&self) -> &[Decl]
-        ensures { result.now ≡ (self.now).decls }
+        ensures all { result.now ≡ (self.now).decls }
+        ensures theory { IsTheory result.now }
     {
         self.decls.as_slice()
     }
@@ -222,8 +225,16 @@ impl Theory {
         &self.syms
     }
 
+    /// Whether no clause of the function or relation declared last is missing.
+    pub fn is_whole(&self) -> bool
+        ensures { result ≡ headings.is_whole (self.now).decls }
+    {
+        is_whole(&self.syms, self.decls.as_slice())
+    }
+
     /// Puts down a declaration with all that it brings. False: the table may not take that.
     pub(crate) fn put(&mut self, alloc: Global, decl: Decl) -> Result<bool, NoMemory>
+        requires { ComesInTime self.old.decls (is_clause decl) × Asks self.old.decls decl }
         ensures ok { IfOk result (Steps self.old self.new (with_decl self.old decl) (MayBring (table_of self.old.decls) decl)) }
         ensures err { OnErr result (self.new ≡ self.old) }
     {
