@@ -10,15 +10,9 @@ mod derivations;
 #[cfg(test)]
 mod outside;
 #[cfg(test)]
-mod printed;
-#[cfg(test)]
-mod read;
-#[cfg(test)]
 mod specifications;
 #[cfg(test)]
 mod statuses;
-#[cfg(test)]
-mod tables;
 #[cfg(test)]
 mod terms;
 #[cfg(test)]

@@ -1,5 +1,5 @@
 use Rattle.syn_term.specs.Bank.{Belongs}
-use Rattle.syn_tests.proofs.printed.number.Given as goal
+use Rattle.syn_expr_tests.proofs.printed.number.Given as goal
 
 -- the term made so far is the bank's
 abbrev pub invariant-loop : goal.invariant-loop
