@@ -1,5 +1,5 @@
 -- Steps of the making of trees from syntax trees.
-use Rattle.std.specs.Prelude.{ℕ, List, [], ◌∷◌, Option, None, Some, codes, map, if◌then◌else◌}
+use Rattle.std.specs.Prelude.{ℕ, List, [], ◌∷◌, Option, None, codes, map, if◌then◌else◌}
 use Rattle.std.specs.Option.{option_and_then, option_map}
 use Rattle.syn_term.specs.Symbols.{SymbolTable}
 use Rattle.syn_term.specs.Terms.{TermTree}

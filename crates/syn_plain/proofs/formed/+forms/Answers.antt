@@ -13,8 +13,8 @@ is_formed_chain-loop-f-preserved t c = all_more (IsFormed c.args.syms.now) _ _ _
 
 pub is_formed_chain-returns : goal.is_formed_chain-returns
 is_formed_chain-returns t c = (
-  (λ e. (leb-true 2 _ e, all_whole (IsFormed c.args.syms.now) _ _ c.loop-f-test.false c.loop-f.invariant)),
-  (λ h. le-leb 2 _ h.0),
+  (λ e. (leb-true _ _ e, all_whole (IsFormed c.args.syms.now) _ _ c.loop-f-test.false c.loop-f.invariant)),
+  (λ h. le-leb _ _ h.0),
 )
 
 pub is_formed_form-returns-in-Atom : goal.is_formed_form-returns-in-Atom
