@@ -9,6 +9,7 @@ pub mod BoundVars
 pub mod ArgumentLaws
 pub mod HeadingLaws
 pub mod Holding
+pub mod NewNames
 pub mod NumberLaws
 pub mod PatternLaws
 pub mod TurnLaws

@@ -3,6 +3,7 @@
 #![tactic(auto)]
 
 mod among;
+mod axioms;
 mod closed;
 mod decl;
 mod headings;
