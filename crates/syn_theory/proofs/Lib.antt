@@ -11,5 +11,6 @@ pub mod HeadingLaws
 pub mod Holding
 pub mod NewNames
 pub mod NumberLaws
+pub mod OrderLaws
 pub mod PatternLaws
 pub mod TurnLaws

@@ -9,6 +9,7 @@ mod decl;
 mod headings;
 mod monos;
 mod naming;
+mod orders;
 mod patterns;
 mod theory;
 mod turns;
