@@ -9,7 +9,9 @@ pub mod BoundVars
 pub mod ArgumentLaws
 pub mod HeadingLaws
 pub mod Holding
+pub mod NewNames
 pub mod NumberLaws
+pub mod OrderLaws
 pub mod PatternLaws
 pub mod TurnLaws
 pub mod Keeping

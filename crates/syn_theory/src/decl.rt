@@ -27,11 +27,20 @@ pub enum Decl {
         result: Sort,
     },
     /// `rel r(S1, .., Sn)`, whose clauses follow at once.
-    Rel { name: Text, args: Items<Sort> },
+    Rel {
+        name: Text,
+        args: Items<Sort>,
+    },
     /// `clause f(q1, .., qn) = OUT`, a clause of the function declared last.
-    FunClause { args: Items<Term>, body: Out },
+    FunClause {
+        args: Items<Term>,
+        body: Out,
+    },
     /// `clause r(q1, .., qn) <-> FORM`, a clause of the relation declared last.
-    RelClause { args: Items<Term>, body: Form },
+    RelClause {
+        args: Items<Term>,
+        body: Form,
+    },
     /// `order w(x: S, ..) by TERM`: a relation on two lists of arguments of these sorts, true where the
     /// measure of the first is below that of the second.
     Order {
@@ -40,7 +49,13 @@ pub enum Decl {
         measure: Term,
     },
     /// `axiom NAME: FORM`, a formula without free variables.
-    Axiom { name: Text, form: QForm },
+    Axiom {
+        name: Text,
+        form: QForm,
+    },
     /// `mono NAME: REL up SYM K`, and its kin.
-    Monotone { name: Text, mono: Mono },
+    Monotone {
+        name: Text,
+        mono: Mono,
+    },
 }

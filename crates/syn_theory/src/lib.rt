@@ -3,11 +3,13 @@
 #![tactic(auto)]
 
 mod among;
+mod axioms;
 mod closed;
 mod decl;
 mod headings;
 mod monos;
 mod naming;
+mod orders;
 mod patterns;
 mod theory;
 mod turns;
