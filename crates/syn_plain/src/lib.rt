@@ -18,5 +18,6 @@ pub use quantified::is_formed_qform;
 pub use sorts::{are_of_one_sort, given_sort, have_sorts, is_atom, sort_in};
 pub use terms::{are_sorted, is_sorted};
 pub use vars::{
-    form_has_one_sort_each, out_has_one_sort_each, qform_has_one_sort_each, term_has_one_sort_each,
+    form_has_one_sort_each, out_has_one_sort_each, put_all_vars, qform_has_one_sort_each,
+    term_has_one_sort_each,
 };

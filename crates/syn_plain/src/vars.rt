@@ -61,9 +61,9 @@ fn put_term_vars(vars: &mut Items<Var>, t: &Term) -> Result<(), NoMemory>
     }
 }
 
-/// Puts the variables of the terms behind the others.
+/// Puts the variables of the terms behind the others, in order. The one error is want of memory.
 #[cycle(terms)]
-fn put_all_vars(vars: &mut Items<Var>, terms: &[Term]) -> Result<(), NoMemory>
+pub fn put_all_vars(vars: &mut Items<Var>, terms: &[Term]) -> Result<(), NoMemory>
     ensures { OnOk result (vars.new ≡ vars.old ++ flat_map term_vars terms.now) }
 {
     for t in terms {

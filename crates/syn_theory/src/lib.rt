@@ -3,6 +3,7 @@
 #![tactic(auto)]
 
 mod among;
+mod clauses;
 mod closed;
 mod decl;
 mod headings;
