@@ -1,5 +1,4 @@
-// Whether a clause may follow the declarations: the heading that it belongs to, the symbol that it defines, its arguments and
-// its body.
+// Whether a clause may follow the declarations: its heading, its symbol, its arguments and its body.
 ghost use Rattle.std.specs.Prelude.{◌≡◌, ◌↔◌, ℕ, List, IfOk, IsTrue, MatchOption, Some};
 ghost use Rattle.std.specs.List.{flat_map};
 ghost use Rattle.syn_term.specs.declared.sorts.Sort.{Sort};
@@ -191,11 +190,11 @@ fn gives(syms: &Symbols, body: &Out, value: Sort) -> bool
 fn fun_is_sorted(
     syms: &Symbols,
     own: Own,
-    heading: FunHeading,
+    heading: &FunHeading,
     args: &[Term],
     body: &Out,
 ) -> bool
-    ensures { IsTrue result ↔ HasArguments syms.now heading.sorts.now args.now × (plain.given_sort syms.now body.now ≡ Some heading.value) × UsesOut own.symbol own.rest body.now }
+    ensures { IsTrue result ↔ HasArguments syms.now heading.now.sorts.now args.now × (plain.given_sort syms.now body.now ≡ Some heading.now.value) × UsesOut own.symbol own.rest body.now }
 {
     has_arguments(syms, heading.sorts, args)
         && gives(syms, body, heading.value)
@@ -207,11 +206,11 @@ fn fun_body_fits(
     alloc: Global,
     syms: &Symbols,
     own: Own,
-    heading: FunHeading,
+    heading: &FunHeading,
     args: &[Term],
     body: &Out,
 ) -> Result<bool, NoMemory>
-    ensures { IfOk result (λ b. IsTrue b ↔ (HasArguments syms.now heading.sorts.now args.now × (plain.given_sort syms.now body.now ≡ Some heading.value) × UsesOut own.symbol own.rest body.now) × (IsPlainOut syms.now body.now × AreAmong (out_vars body.now) (flat_map term_vars args.now))) }
+    ensures { IfOk result (λ b. IsTrue b ↔ (HasArguments syms.now heading.now.sorts.now args.now × (plain.given_sort syms.now body.now ≡ Some heading.now.value) × UsesOut own.symbol own.rest body.now) × (IsPlainOut syms.now body.now × AreAmong (out_vars body.now) (flat_map term_vars args.now))) }
 {
     if !fun_is_sorted(syms, own, heading, args, body) {
         return Ok(false);
@@ -224,11 +223,11 @@ fn fun_body_fits(
 fn rel_is_sorted(
     syms: &Symbols,
     own: Own,
-    heading: RelHeading,
+    heading: &RelHeading,
     args: &[Term],
     body: &Form,
 ) -> bool
-    ensures { IsTrue result ↔ HasArguments syms.now heading.sorts.now args.now × UsesForm own.symbol own.rest body.now }
+    ensures { IsTrue result ↔ HasArguments syms.now heading.now.sorts.now args.now × UsesForm own.symbol own.rest body.now }
 {
     has_arguments(syms, heading.sorts, args) && uses_form(own.symbol, own.rest, body)
 }
@@ -238,11 +237,11 @@ fn rel_body_fits(
     alloc: Global,
     syms: &Symbols,
     own: Own,
-    heading: RelHeading,
+    heading: &RelHeading,
     args: &[Term],
     body: &Form,
 ) -> Result<bool, NoMemory>
-    ensures { IfOk result (λ b. IsTrue b ↔ (HasArguments syms.now heading.sorts.now args.now × UsesForm own.symbol own.rest body.now) × (IsPlainForm syms.now body.now × AreAmong (form_vars body.now) (flat_map term_vars args.now))) }
+    ensures { IfOk result (λ b. IsTrue b ↔ (HasArguments syms.now heading.now.sorts.now args.now × UsesForm own.symbol own.rest body.now) × (IsPlainForm syms.now body.now × AreAmong (form_vars body.now) (flat_map term_vars args.now))) }
 {
     if !rel_is_sorted(syms, own, heading, args, body) {
         return Ok(false);
@@ -255,12 +254,12 @@ fn fun_clause_fits(
     alloc: Global,
     syms: &Symbols,
     decls: &[Decl],
-    heading: FunHeading,
+    heading: &FunHeading,
     args: &[Term],
     body: &Out,
 ) -> Result<bool, NoMemory>
     requires table { syms.now ≡ table_of decls.now }
-    requires heading { (headings.heading_of decls.now).declared ≡ Some (declared.Fun heading.name.now heading.sorts.now heading.value) }
+    requires heading { (headings.heading_of decls.now).declared ≡ Some (declared.Fun heading.now.name.now heading.now.sorts.now heading.now.value) }
     ensures { IfOk result (λ b. IsTrue b ↔ MayFunClause decls.now args.now body.now) }
 {
     match own_of(syms, decls, heading.name, args) {
@@ -274,12 +273,12 @@ fn rel_clause_fits(
     alloc: Global,
     syms: &Symbols,
     decls: &[Decl],
-    heading: RelHeading,
+    heading: &RelHeading,
     args: &[Term],
     body: &Form,
 ) -> Result<bool, NoMemory>
     requires table { syms.now ≡ table_of decls.now }
-    requires heading { (headings.heading_of decls.now).declared ≡ Some (declared.Rel heading.name.now heading.sorts.now) }
+    requires heading { (headings.heading_of decls.now).declared ≡ Some (declared.Rel heading.now.name.now heading.now.sorts.now) }
     ensures { IfOk result (λ b. IsTrue b ↔ MayRelClause decls.now args.now body.now) }
 {
     match own_of(syms, decls, heading.name, args) {
@@ -301,7 +300,7 @@ pub(crate) fn may_fun_clause(
 {
     match fun_heading(decls) {
         None => Ok(false),
-        Some(heading) => fun_clause_fits(alloc, syms, decls, heading, args, body),
+        Some(heading) => fun_clause_fits(alloc, syms, decls, &heading, args, body),
     }
 }
 
@@ -318,6 +317,6 @@ pub(crate) fn may_rel_clause(
 {
     match rel_heading(decls) {
         None => Ok(false),
-        Some(heading) => rel_clause_fits(alloc, syms, decls, heading, args, body),
+        Some(heading) => rel_clause_fits(alloc, syms, decls, &heading, args, body),
     }
 }
