@@ -187,13 +187,7 @@ fn gives(syms: &Symbols, body: &Out, value: Sort) -> bool
 
 /// Whether arguments and body are of the sorts of the function, and the body uses the symbol only
 /// where it may.
-fn fun_is_sorted(
-    syms: &Symbols,
-    own: Own,
-    heading: &FunHeading,
-    args: &[Term],
-    body: &Out,
-) -> bool
+fn fun_is_sorted(syms: &Symbols, own: Own, heading: &FunHeading, args: &[Term], body: &Out) -> bool
     ensures { IsTrue result ↔ HasArguments syms.now heading.now.sorts.now args.now × (plain.given_sort syms.now body.now ≡ Some heading.now.value) × UsesOut own.symbol own.rest body.now }
 {
     has_arguments(syms, heading.sorts, args)
@@ -220,13 +214,7 @@ fn fun_body_fits(
 
 /// Whether the arguments are of the sorts of the relation, and the body uses the symbol only where it
 /// may.
-fn rel_is_sorted(
-    syms: &Symbols,
-    own: Own,
-    heading: &RelHeading,
-    args: &[Term],
-    body: &Form,
-) -> bool
+fn rel_is_sorted(syms: &Symbols, own: Own, heading: &RelHeading, args: &[Term], body: &Form) -> bool
     ensures { IsTrue result ↔ HasArguments syms.now heading.now.sorts.now args.now × UsesForm own.symbol own.rest body.now }
 {
     has_arguments(syms, heading.sorts, args) && uses_form(own.symbol, own.rest, body)
