@@ -6,6 +6,7 @@ pub mod Using
 pub mod Over
 pub mod Free
 pub mod BoundVars
+pub mod ClauseLaws
 pub mod ArgumentLaws
 pub mod HeadingLaws
 pub mod Holding

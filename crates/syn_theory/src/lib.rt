@@ -4,9 +4,11 @@
 
 mod among;
 mod axioms;
+mod clauses;
 mod closed;
 mod decl;
 mod headings;
+mod may_follow;
 mod monos;
 mod naming;
 mod orders;

@@ -11,6 +11,7 @@ ghost use Rattle.syn_theory.specs.declared.theory.DeclError.TheVariants as error
 
 use crate::decl::Decl;
 use crate::headings::is_whole;
+use crate::may_follow::may_follow;
 use sqlite_items::Items;
 use std::alloc::Global;
 use std::marker::Model;
@@ -232,8 +233,25 @@ impl Theory {
         is_whole(&self.syms, self.decls.as_slice())
     }
 
+    /// Puts a declaration behind the others. `Refused` comes exactly where it may not follow them; the
+    /// theory is as it was after an error.
+    pub fn declare(&mut self, alloc: Global, decl: Decl) -> Result<(), DeclError>
+        ensures ok { OnOk result (MayDeclare self.old.decls decl × (self.new ≡ with_decl self.old decl)) }
+        ensures refused { result ≡ Err error.Refused → MayDeclare self.old.decls decl → ⊥ }
+        ensures err { OnErr result (self.new ≡ self.old) }
+    {
+        if !may_follow(alloc, &self.syms, self.decls.as_slice(), &decl)? {
+            return Err(DeclError::Refused);
+        }
+        if self.put(alloc, decl)? {
+            Ok(())
+        } else {
+            Err(DeclError::Refused)
+        }
+    }
+
     /// Puts down a declaration with all that it brings. False: the table may not take that.
-    pub(crate) fn put(&mut self, alloc: Global, decl: Decl) -> Result<bool, NoMemory>
+    fn put(&mut self, alloc: Global, decl: Decl) -> Result<bool, NoMemory>
         requires { ComesInTime self.old.decls (is_clause decl) × Asks self.old.decls decl }
         ensures ok { IfOk result (Steps self.old self.new (with_decl self.old decl) (MayBring (table_of self.old.decls) decl)) }
         ensures err { OnErr result (self.new ≡ self.old) }
