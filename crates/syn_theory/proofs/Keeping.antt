@@ -1,5 +1,5 @@
 -- A theory stays one.
-use Rattle.std.proofs.Common.{◌≡◌, Bool, true, List, [], ◌∷◌, ◌++◌, Option, Result, Ok, IfOk, sym, ◌∙◌, ap, subst}
+use Rattle.std.proofs.Common.{◌≡◌, Bool, true, List, [], ◌∷◌, ◌++◌, sym, ◌∙◌, ap, subst}
 use Rattle.std.proofs.lemmas.List.Sums.{fold-append}
 use Rattle.syn_term.specs.Symbols.{SymbolTable, first_symbols}
 use Rattle.syn_theory.specs.declared.decl.Decl.{Decl}

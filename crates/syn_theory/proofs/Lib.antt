@@ -16,3 +16,4 @@ pub mod OrderLaws
 pub mod PatternLaws
 pub mod TurnLaws
 pub mod Keeping
+pub mod Asking
