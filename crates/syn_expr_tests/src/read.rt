@@ -1,6 +1,7 @@
 // Texts that are read, each printed again, and texts that are refused.
 use crate::tables::added;
 use std::alloc::Global;
+use std::process::Abort;
 use std::test::Fail;
 use syn_expr::{
     ExprError, Scope, print_form, print_out, print_qform, print_term, read_body, read_form,
@@ -114,222 +115,287 @@ fn in_row(alloc: Global, syms: &Symbols, kind: Kinds, text: &str) -> Result<Stri
     read_again(alloc, kind, &scope, text)
 }
 
-#[test]
-fn reads_terms(rt: HostRuntime) -> Result<(), Fail> {
-    let alloc = rt.alloc();
+/// In a file or in a row.
+fn read_in(
+    alloc: Global,
+    syms: &Symbols,
+    kind: Kinds,
+    rows: bool,
+    text: &str,
+) -> Result<String, Fail> {
+    if rows {
+        in_row(alloc, syms, kind, text)
+    } else {
+        in_file(alloc, syms, kind, text)
+    }
+}
+
+/// Each text is read, and printed as the one beside it.
+fn reads<R: Abort>(
+    rt: &R,
+    alloc: Global,
+    kind: Kinds,
+    rows: bool,
+    table: &[(&str, &str)],
+) -> Result<(), Fail> {
     let syms = make_table(alloc)?;
-    for (text, want) in [
-        (" dbl( n ) # twice", "dbl(n)"),
-        ("cons(a, nil)", "cons(a, nil)"),
-        ("s(s(n))", "s(s(n))"),
-        ("s(3)", "4"),
-        ("s(1000)", "s(1000)"),
-    ] {
-        let got = in_file(alloc, &syms, Kinds::Term, text)?;
+    for i in 0..table.len() {
+        let (text, want) = table[i];
+        let got = read_in(alloc, &syms, kind, rows, text)?;
         assert_eq!(rt; got.as_str(), want, "at {text}");
     }
     Ok(())
+}
+
+/// Each text is refused.
+fn refuses<R: Abort>(
+    rt: &R,
+    alloc: Global,
+    kind: Kinds,
+    rows: bool,
+    texts: &[&str],
+) -> Result<(), Fail> {
+    let syms = make_table(alloc)?;
+    for i in 0..texts.len() {
+        let got = read_in(alloc, &syms, kind, rows, texts[i])?;
+        assert!(rt; got.is_empty(), "at {}", texts[i]);
+    }
+    Ok(())
+}
+
+/// Whether the text is read in a file.
+fn is_read(alloc: Global, kind: Kinds, text: &str) -> Result<bool, Fail> {
+    let syms = make_table(alloc)?;
+    let got = in_file(alloc, &syms, kind, text)?;
+    Ok(!got.is_empty())
+}
+
+#[test]
+fn reads_terms(rt: HostRuntime) -> Result<(), Fail> {
+    reads(
+        &rt,
+        rt.alloc(),
+        Kinds::Term,
+        false,
+        &[
+            (" dbl( n ) # twice", "dbl(n)"),
+            ("cons(a, nil)", "cons(a, nil)"),
+            ("s(s(n))", "s(s(n))"),
+            ("s(3)", "4"),
+            ("s(1000)", "s(1000)"),
+        ],
+    )
 }
 
 #[test]
 fn refuses_terms(rt: HostRuntime) -> Result<(), Fail> {
-    let alloc = rt.alloc();
-    let syms = make_table(alloc)?;
-    for text in [
-        "a = b",
-        "nat",
-        "s",
-        "dbl",
-        "dbl()",
-        "dbl(a, b)",
-        "le(a, b)",
-        "(a)",
-        "a b",
-        "a | b",
-        "",
-    ] {
-        let got = in_file(alloc, &syms, Kinds::Term, text)?;
-        assert!(rt; got.is_empty(), "at {text}");
-    }
-    Ok(())
+    refuses(
+        &rt,
+        rt.alloc(),
+        Kinds::Term,
+        false,
+        &[
+            "a = b",
+            "nat",
+            "s",
+            "dbl",
+            "dbl()",
+            "dbl(a, b)",
+            "le(a, b)",
+            "(a)",
+            "a b",
+            "a | b",
+            "",
+        ],
+    )
 }
 
 #[test]
 fn reads_forms(rt: HostRuntime) -> Result<(), Fail> {
-    let alloc = rt.alloc();
-    let syms = make_table(alloc)?;
-    for (text, want) in [
-        ("le(1000, 1000)", "le(1000, 1000)"),
-        ("not a = b", "not a = b"),
-        ("not not true", "not not true"),
-        ("true and false or true", "(true and false) or true"),
-        (
-            "true -> false or true and not false",
-            "true -> (false or (true and not false))",
-        ),
-        (
-            "true and false and (true and true)",
-            "true and false and (true and true)",
-        ),
-        ("(true -> true) -> false", "(true -> true) -> false"),
-        (
-            "true <-> true -> false",
-            "(true -> (true -> false)) and ((true -> false) -> true)",
-        ),
-        ("le(a, b) -> a = b -> b = a", "le(a, b) -> (a = b -> b = a)"),
-        ("a = b <-> true", "(a = b -> true) and (true -> a = b)"),
-    ] {
-        let got = in_file(alloc, &syms, Kinds::Form, text)?;
-        assert_eq!(rt; got.as_str(), want, "at {text}");
-    }
-    Ok(())
+    reads(
+        &rt,
+        rt.alloc(),
+        Kinds::Form,
+        false,
+        &[
+            ("le(1000, 1000)", "le(1000, 1000)"),
+            ("not a = b", "not a = b"),
+            ("not not true", "not not true"),
+            ("true and false or true", "(true and false) or true"),
+            (
+                "true -> false or true and not false",
+                "true -> (false or (true and not false))",
+            ),
+            (
+                "true and false and (true and true)",
+                "true and false and (true and true)",
+            ),
+            ("(true -> true) -> false", "(true -> true) -> false"),
+            (
+                "true <-> true -> false",
+                "(true -> (true -> false)) and ((true -> false) -> true)",
+            ),
+            ("le(a, b) -> a = b -> b = a", "le(a, b) -> (a = b -> b = a)"),
+            ("a = b <-> true", "(a = b -> true) and (true -> a = b)"),
+        ],
+    )
 }
 
 #[test]
 fn refuses_forms(rt: HostRuntime) -> Result<(), Fail> {
-    let alloc = rt.alloc();
-    let syms = make_table(alloc)?;
-    for text in [
-        "le(1001, 1)",
-        "a = b = a",
-        "a = nil",
-        "le(a, nil)",
-        "?1 = a",
-        "!gap.1(a) = a",
-        "true and",
-        "(true",
-        "true)",
-        "()",
-        "a",
-        "le",
-        "all",
-        "a = b <-> b = a <-> a = a",
-    ] {
-        let got = in_file(alloc, &syms, Kinds::Form, text)?;
-        assert!(rt; got.is_empty(), "at {text}");
-    }
-    Ok(())
+    refuses(
+        &rt,
+        rt.alloc(),
+        Kinds::Form,
+        false,
+        &[
+            "le(1001, 1)",
+            "a = b = a",
+            "a = nil",
+            "le(a, nil)",
+            "?1 = a",
+            "!gap.1(a) = a",
+            "true and",
+            "(true",
+            "true)",
+            "()",
+            "a",
+            "le",
+            "all",
+            "a = b <-> b = a <-> a = a",
+        ],
+    )
 }
 
 #[test]
 fn reads_outputs(rt: HostRuntime) -> Result<(), Fail> {
-    let alloc = rt.alloc();
-    let syms = make_table(alloc)?;
-    for (text, want) in [
-        (
-            "if a = 0 then b else if b = 0 then a else 0",
-            "if a = 0 then b else if b = 0 then a else 0",
-        ),
-        ("a", "a"),
-        (
-            "if a = 0 then if b = 0 then a else b else 0",
-            "if a = 0 then if b = 0 then a else b else 0",
-        ),
-        (
-            "if not (a = 0 and b = 0) then a else b",
-            "if not (a = 0 and b = 0) then a else b",
-        ),
-    ] {
-        let got = in_file(alloc, &syms, Kinds::Out, text)?;
-        assert_eq!(rt; got.as_str(), want, "at {text}");
-    }
-    Ok(())
+    reads(
+        &rt,
+        rt.alloc(),
+        Kinds::Out,
+        false,
+        &[
+            (
+                "if a = 0 then b else if b = 0 then a else 0",
+                "if a = 0 then b else if b = 0 then a else 0",
+            ),
+            ("a", "a"),
+            (
+                "if a = 0 then if b = 0 then a else b else 0",
+                "if a = 0 then if b = 0 then a else b else 0",
+            ),
+            (
+                "if not (a = 0 and b = 0) then a else b",
+                "if not (a = 0 and b = 0) then a else b",
+            ),
+        ],
+    )
 }
 
 #[test]
 fn refuses_outputs(rt: HostRuntime) -> Result<(), Fail> {
-    let alloc = rt.alloc();
-    let syms = make_table(alloc)?;
-    for text in [
-        "a = 0",
-        "if a = 0 then a",
-        "if a = 0 then a else b else a",
-        "if (a = 0 then a else b",
-        "if then a else b",
-        "(a)",
-        "if a = 0 then b else nil",
-        "if all x: nat. x = x then b else a",
-    ] {
-        let got = in_file(alloc, &syms, Kinds::Out, text)?;
-        assert!(rt; got.is_empty(), "at {text}");
-    }
-    Ok(())
-}
-
-#[test]
-fn reads_bodies(rt: HostRuntime) -> Result<(), Fail> {
-    let alloc = rt.alloc();
-    let syms = make_table(alloc)?;
-    for (text, want) in [(
-        "if a = 0 then b else if b = 0 then a else 0",
-        "if a = 0 then b else if b = 0 then a else 0",
-    )] {
-        let got = in_file(alloc, &syms, Kinds::Body, text)?;
-        assert_eq!(rt; got.as_str(), want, "at {text}");
-    }
-    Ok(())
+    refuses(
+        &rt,
+        rt.alloc(),
+        Kinds::Out,
+        false,
+        &[
+            "a = 0",
+            "if a = 0 then a",
+            "if a = 0 then a else b else a",
+            "if (a = 0 then a else b",
+            "if then a else b",
+            "(a)",
+            "if a = 0 then b else nil",
+            "if all x: nat. x = x then b else a",
+        ],
+    )
 }
 
 #[test]
 fn reads_quantifiers(rt: HostRuntime) -> Result<(), Fail> {
-    let alloc = rt.alloc();
-    let syms = make_table(alloc)?;
-    for (text, want) in [
-        (
-            "all x: nat, y: nat. x = y -> y = x",
-            "all x: nat. (all y: nat. (x = y -> y = x))",
-        ),
-        (
-            "(all x: nat. x = x) and (all x: nat. x = x)",
-            "(all x: nat. x = x) and (all x: nat. x = x)",
-        ),
-        ("all x: nat. (some x: nat. x = x)", ""),
-        ("all a: nat. a = a", ""),
-        ("all n: nat. n = n", ""),
-        ("all list: nat. list = list", ""),
-        ("all x: list. x = nil", "all x: list. x = nil"),
-        ("all x: other. x = x", ""),
-        ("all x: nat. y = x", ""),
-        (
-            "all x: nat. some y: list. true <-> false",
-            "all x: nat. (some y: list. ((true -> false) and (false -> true)))",
-        ),
-        ("true and all x: nat. x = x", ""),
-        ("not all x: nat. x = x", ""),
-        ("true <-> all x: nat. x = x", ""),
-        (
-            "le(a, b) and (all x: nat. x = a)",
-            "le(a, b) and (all x: nat. x = a)",
-        ),
-        ("dbl(all x: nat. a) = a", ""),
-        ("all x. x = x", ""),
-        ("all x: nat, . x = x", ""),
-    ] {
-        let got = in_file(alloc, &syms, Kinds::QForm, text)?;
-        assert_eq!(rt; got.as_str(), want, "at {text}");
-    }
-    Ok(())
+    reads(
+        &rt,
+        rt.alloc(),
+        Kinds::QForm,
+        false,
+        &[
+            (
+                "all x: nat, y: nat. x = y -> y = x",
+                "all x: nat. (all y: nat. (x = y -> y = x))",
+            ),
+            (
+                "(all x: nat. x = x) and (all x: nat. x = x)",
+                "(all x: nat. x = x) and (all x: nat. x = x)",
+            ),
+            ("all x: list. x = nil", "all x: list. x = nil"),
+            (
+                "all x: nat. some y: list. true <-> false",
+                "all x: nat. (some y: list. ((true -> false) and (false -> true)))",
+            ),
+            (
+                "le(a, b) and (all x: nat. x = a)",
+                "le(a, b) and (all x: nat. x = a)",
+            ),
+        ],
+    )
+}
+
+#[test]
+fn refuses_quantifiers(rt: HostRuntime) -> Result<(), Fail> {
+    refuses(
+        &rt,
+        rt.alloc(),
+        Kinds::QForm,
+        false,
+        &[
+            "all x: nat. (some x: nat. x = x)",
+            "all a: nat. a = a",
+            "all n: nat. n = n",
+            "all list: nat. list = list",
+            "all x: other. x = x",
+            "all x: nat. y = x",
+            "true and all x: nat. x = x",
+            "not all x: nat. x = x",
+            "true <-> all x: nat. x = x",
+            "dbl(all x: nat. a) = a",
+            "all x. x = x",
+            "all x: nat, . x = x",
+        ],
+    )
 }
 
 #[test]
 fn reads_in_rows(rt: HostRuntime) -> Result<(), Fail> {
-    let alloc = rt.alloc();
-    let syms = make_table(alloc)?;
-    for (text, want) in [
-        ("!gap.1(?1) = ?2", "!gap.1(?1) = ?2"),
-        ("?1:list = nil", "?1:list = nil"),
-        ("?1 = a and ?1:list = nil", ""),
-        ("true <-> true", ""),
-        ("n = a", ""),
-        ("?1 = dbl(?1) # a row", "?1 = dbl(?1)"),
-        ("?0 = a", ""),
-        ("?1 :list = nil", ""),
-        ("!gap.2(?1) = ?2", ""),
-    ] {
-        let got = in_row(alloc, &syms, Kinds::Form, text)?;
-        assert_eq!(rt; got.as_str(), want, "at {text}");
-    }
-    Ok(())
+    reads(
+        &rt,
+        rt.alloc(),
+        Kinds::Form,
+        true,
+        &[
+            ("!gap.1(?1) = ?2", "!gap.1(?1) = ?2"),
+            ("?1:list = nil", "?1:list = nil"),
+            ("?1 = dbl(?1) # a row", "?1 = dbl(?1)"),
+        ],
+    )
+}
+
+#[test]
+fn refuses_in_rows(rt: HostRuntime) -> Result<(), Fail> {
+    refuses(
+        &rt,
+        rt.alloc(),
+        Kinds::Form,
+        true,
+        &[
+            "?1 = a and ?1:list = nil",
+            "true <-> true",
+            "n = a",
+            "?0 = a",
+            "?1 :list = nil",
+            "!gap.2(?1) = ?2",
+        ],
+    )
 }
 
 /// The words `before` and `after`, each so many times, round `true`.
@@ -348,16 +414,15 @@ fn round(alloc: Global, before: &str, after: &str, times: u32) -> Result<String,
 #[test]
 fn reads_up_to_the_limits(rt: HostRuntime) -> Result<(), Fail> {
     let alloc = rt.alloc();
-    let syms = make_table(alloc)?;
-    for (before, after, times, reads) in [
-        ("not ", "", 1_199, true),
-        ("not ", "", 1_200, false),
-        ("true and ", "", 4_094, true),
-        ("true and ", "", 4_095, false),
+    for (before, times, reads) in [
+        ("not ", 1_199, true),
+        ("not ", 1_200, false),
+        ("true and ", 4_094, true),
+        ("true and ", 4_095, false),
     ] {
-        let text = round(alloc, before, after, times)?;
-        let got = in_file(alloc, &syms, Kinds::Form, text.as_str())?;
-        assert!(rt; reads != got.is_empty(), "at {times} times {before}");
+        let text = round(alloc, before, "", times)?;
+        let got = is_read(alloc, Kinds::Form, text.as_str())?;
+        assert!(rt; reads == got, "at {times} times {before}");
     }
     Ok(())
 }
@@ -365,10 +430,8 @@ fn reads_up_to_the_limits(rt: HostRuntime) -> Result<(), Fail> {
 #[test]
 fn reads_many_brackets(rt: HostRuntime) -> Result<(), Fail> {
     let alloc = rt.alloc();
-    let syms = make_table(alloc)?;
     let text = round(alloc, "(", ")", 1_000_000)?;
-    let got = in_file(alloc, &syms, Kinds::Form, text.as_str())?;
-    assert_eq!(rt; got.as_str(), "true");
+    assert!(rt; is_read(alloc, Kinds::Form, text.as_str())?);
     Ok(())
 }
 
@@ -385,7 +448,6 @@ fn choice(alloc: Global, more: u32) -> Result<String, Fail> {
 #[test]
 fn reads_larger_bodies(rt: HostRuntime) -> Result<(), Fail> {
     let alloc = rt.alloc();
-    let syms = make_table(alloc)?;
     for (kind, more, reads) in [
         (Kinds::Out, 4_091, true),
         (Kinds::Out, 4_092, false),
@@ -394,8 +456,8 @@ fn reads_larger_bodies(rt: HostRuntime) -> Result<(), Fail> {
         (Kinds::Body, 262_140, false),
     ] {
         let text = choice(alloc, more)?;
-        let got = in_file(alloc, &syms, kind, text.as_str())?;
-        assert!(rt; reads != got.is_empty(), "with {more} members more");
+        let got = is_read(alloc, kind, text.as_str())?;
+        assert!(rt; reads == got, "with {more} members more");
     }
     Ok(())
 }
