@@ -9,3 +9,5 @@ mod printed;
 mod read;
 #[cfg(test)]
 mod tables;
+#[cfg(test)]
+mod theories;
