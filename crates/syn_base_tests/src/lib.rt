@@ -1,0 +1,5 @@
+//! Tests of the crates at the bottom, each a table of cases: symbols and terms, tokens and lines,
+//! formulas and outputs, files and texts. A proof says what an answer means; a table says that the
+//! answer comes.
+#![tactic(auto)]
+
