@@ -3,7 +3,7 @@ use Rattle.std.proofs.Common.{◌≡◌, ℕ, ◌≤◌, List, [], Option, None,
 use Rattle.syn_outside.specs.Files.{File, Told}
 use Rattle.syn_outside.specs.Faults.{HasCause}
 use Rattle.syn_outside.specs.Texts.{Adds, AddsPrefix}
-use Rattle.syn_model.specs.Trees.{TheoryTree, SpecTree}
+use Rattle.syn_app.specs.Trees.{TheoryTree, SpecTree}
 use Rattle.syn_app.specs.declared.readings.Entry.{Entry}
 use Rattle.syn_app.specs.declared.spec_text.SpecReading.{SpecReading}
 use Rattle.syn_app.specs.declared.status.Status.{Status}

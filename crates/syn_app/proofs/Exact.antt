@@ -4,7 +4,7 @@ use Rattle.std.proofs.Common.{◌≡◌, ◌++◌, codes, ℕ, zero, suc, ◌+�
 use Rattle.std.proofs.lemmas.Bool.{cases_lt}
 use Rattle.std.proofs.lemmas.List.{append_cancel_left}
 use Rattle.syn_term.specs.Names.{IsName}
-use Rattle.syn_model.specs.Trees.{SpecTree, TheoryTree}
+use Rattle.syn_app.specs.Trees.{SpecTree, TheoryTree}
 use Rattle.syn_app.specs.declared.readings.Entry.{Entry}
 use Rattle.syn_app.specs.declared.readings.RowReading.{RowReading}
 use Rattle.syn_app.specs.declared.readings.TermReading.{TermReading}

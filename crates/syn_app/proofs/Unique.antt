@@ -5,7 +5,7 @@ use Rattle.std.proofs.lemmas.Bool.{cases_lt}
 use Rattle.syn_outside.specs.Files.{File}
 use Rattle.syn_outside.specs.Faults.{HasCause, Rose}
 use Rattle.syn_term.specs.Names.{IsName}
-use Rattle.syn_model.specs.Trees.{Declared, TheoryTree, SpecTree}
+use Rattle.syn_app.specs.Trees.{Declared, TheoryTree, SpecTree}
 use Rattle.syn_app.specs.declared.readings.Entry.{Entry}
 use Rattle.syn_app.specs.declared.status.Status.{Status}
 use Rattle.syn_app.specs.declared.status.Status.TheVariants as status

@@ -3,7 +3,7 @@
 use Rattle.std.specs.Prelude.{◌≡◌, ◌⊎◌, ℕ, List, None, Some}
 use Rattle.syn_outside.specs.Files.{File, Told, file_of}
 use Rattle.syn_outside.specs.Faults.{Rose}
-use Rattle.syn_model.specs.Trees.{TheoryTree, SpecTree}
+use Rattle.syn_app.specs.Trees.{TheoryTree, SpecTree}
 use Rattle.syn_app.specs.declared.readings.Entry.{Entry}
 use Rattle.syn_app.specs.declared.status.Status.{Status}
 use Rattle.syn_app.specs.declared.status.Status.TheVariants as status

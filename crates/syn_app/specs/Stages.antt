@@ -3,8 +3,8 @@ use Rattle.std.specs.Prelude.{◌≡◌, ◌⊎◌, ℕ, List, Option}
 use Rattle.syn_outside.specs.Files.{File, Told}
 use Rattle.syn_outside.specs.Faults.{HasCause, Rose}
 use Rattle.syn_outside.specs.Texts.{Adds, AddsPrefix}
-use Rattle.syn_model.specs.Trees.{TheoryTree, ProgramTree}
-use Rattle.syn_model.specs.ProgramText.{printed_program}
+use Rattle.syn_app.specs.Trees.{TheoryTree, ProgramTree}
+use Rattle.syn_app.specs.ProgramText.{printed_program}
 use Rattle.syn_app.specs.declared.readings.Entry.{Entry}
 use Rattle.syn_app.specs.declared.spec_text.SpecReading.{SpecReading}
 use Rattle.syn_app.specs.declared.status.Status.{Status}

@@ -1,7 +1,7 @@
 -- The text of a theory: the one line `theory NAME`.
 use Rattle.std.specs.Prelude.{◌≡◌, ℕ, List, [], ◌∷◌, codes, length}
 use Rattle.syn_term.specs.Names.{IsName}
-use Rattle.syn_model.specs.Trees.{TheoryTree}
+use Rattle.syn_app.specs.Trees.{TheoryTree}
 use Rattle.syn_app.specs.Lines.{in_words, IsCut}
 
 abbrev pub theory_line : List ℕ → List ℕ

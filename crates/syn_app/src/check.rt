@@ -4,7 +4,7 @@ ghost use Rattle.std.specs.Prelude.{◌≡◌, ◌≢◌, map, IfOk, OnOk, Match
 ghost use Rattle.syn_term.specs.Names.{IsName};
 ghost use Rattle.syn_term.specs.Symbols.{MayAdd, with_symbol};
 ghost use Rattle.syn_term.specs.Terms.{TermTree};
-ghost use Rattle.syn_model.specs.Trees.{TheoryTree};
+ghost use Rattle.syn_app.specs.Trees.{TheoryTree};
 ghost use Rattle.syn_app.specs.Checks.{EndsOtherwise, EndsWith, FailsCheck, IsProven, reading_names, reading_spec};
 ghost use Rattle.syn_app.specs.DerivationText.{entry_of};
 ghost use Rattle.syn_app.specs.Printing.{nat_input_symbol, nat_program, nat_program_symbol, nat_program_symbols};
@@ -15,9 +15,9 @@ use crate::readings::{Row, RowReading};
 use crate::replay::{CheckError, replay};
 use crate::rows::term_of;
 use crate::spec_text::SpecReading;
+use crate::trees::{Form, Out};
 use sqlite_items::Items;
 use std::alloc::Global;
-use syn_model::{Form, Out};
 use syn_term::{Bank, Kind, NoMemory, Sort, Sym, Symbols, Term, Text};
 
 /// The program symbol: one argument of sort `nat`, and the result `nat`.

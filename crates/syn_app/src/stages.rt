@@ -2,8 +2,8 @@
 // end the program's text put into the sink.
 ghost use Rattle.std.specs.Prelude.{◌≡◌, ◌≤◌, map, IfOk, IfErr, MatchResult, string_bytes};
 ghost use Rattle.syn_outside.specs.Files.{Told};
-ghost use Rattle.syn_model.specs.ProgramText.{printed_program};
-ghost use Rattle.syn_model.specs.Trees.{TheoryTree};
+ghost use Rattle.syn_app.specs.ProgramText.{printed_program};
+ghost use Rattle.syn_app.specs.Trees.{TheoryTree};
 ghost use Rattle.syn_app.specs.Checks.{reading_names};
 ghost use Rattle.syn_app.specs.Comes.{GoodTheory, IsRefusal};
 ghost use Rattle.syn_app.specs.DerivationText.{entry_of};

@@ -4,7 +4,7 @@ ghost use Rattle.std.specs.Prelude.{◌≡◌, ◌↔◌, ◌⊎◌, ℕ, List, 
 ghost use Rattle.syn_outside.specs.Faults.{Rose};
 ghost use Rattle.syn_outside.specs.Files.{File};
 ghost use Rattle.syn_outside.specs.Texts.{Adds, AddsPrefix};
-ghost use Rattle.syn_model.specs.Trees.{ProgramTree};
+ghost use Rattle.syn_app.specs.Trees.{ProgramTree};
 ghost use Rattle.syn_app.specs.Comes.{AreWords, Comes, ComesFor, FaultOf, FileNames, IsBadDerivation, IsBadSpec, IsBadTheory, IsRefusal, LengthOf, OfFiles, OfFirst, OfSecond, OfTexts, Writing};
 ghost use Rattle.syn_app.specs.ProgramTexts.{IsProgramText};
 ghost use Rattle.syn_app.specs.Replay.{IsFirstToFail, IsUnfinished};

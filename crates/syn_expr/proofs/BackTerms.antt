@@ -34,8 +34,8 @@ use Rattle.syn_form.specs.Printing.{name_for, sort_text}
 use Rattle.syn_expr.specs.Readable.{CanReadNode, CanReadSort, CanReadSymbol, CanReadTerm, CanReadVarIn, IsNamed, IsUnshadowed, symbol_head}
 use Rattle.syn_form.specs.Scopes.{TextScope}
 use Rattle.syn_form.specs.Sorts.{makes_term}
-use Rattle.syn_plain.proofs.Sorting.{makes_of, makes_bare}
-use Rattle.syn_plain.proofs.TermNodes.{by_term_cases, node-App, node-Var, parts-App}
+use Rattle.syn_form.proofs.Sorting.{makes_of, makes_bare}
+use Rattle.syn_form.proofs.TermNodes.{by_term_cases, node-App, node-Var, parts-App}
 use Rattle.syn_expr.proofs.TermSyntaxes.{fold-Alone, fold-Applied, fold-Number, fold-RowVar}
 use Rattle.syn_expr.proofs.TreeReadings.{Written, applied_written, kind_written, number_written, sort_written, successor_written, symbol_written, syntaxes_of, term_written, var_written, writing_of, written_step}
 

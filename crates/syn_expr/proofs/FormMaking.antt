@@ -24,8 +24,8 @@ use Rattle.syn_form.specs.Sorts.{makes_atom}
 use Rattle.syn_form.specs.Trees.{QFormTree}
 use Rattle.syn_expr.specs.Elaborating.{bare_reading, binder_var}
 use Rattle.syn_expr.proofs.Options.{one_missing}
-use Rattle.syn_plain.proofs.QForms.{qfold-All, qfold-Atom, qfold-Exists}
-use Rattle.syn_plain.proofs.Sorting.{atom_of, makes_atom_of, makes_atom_bare}
+use Rattle.syn_form.proofs.QForms.{qfold-All, qfold-Atom, qfold-Exists}
+use Rattle.syn_form.proofs.Sorting.{atom_of, makes_atom_of, makes_atom_bare}
 
 abbrev pub both : {A : Type 0} → A → ℕ → A × ℕ
 both a n = (a, n)

@@ -35,7 +35,7 @@ use Rattle.syn_expr.proofs.FormPuts.{qform_puts}
 use Rattle.syn_expr.proofs.Puts.{PutsWords, else_between, space_stops, spelled_alone, then_between, word_then_space, words_then}
 use Rattle.syn_expr.proofs.TermPuts.{term_puts}
 use Rattle.syn_expr.proofs.ReadSorts.{given_there, one_sort}
-use Rattle.syn_plain.proofs.SpokenVars.{sorts_spoken}
+use Rattle.syn_form.proofs.SpokenVars.{sorts_spoken}
 use Rattle.syn_expr.proofs.TreeReadings.{as_qform, form_written, out_written, out_written_step, qform_written, term_written}
 
 texts_in_turn : (a b c d e f : List ℕ) → a ++ b ++ c ++ d ++ e ++ f ≡ a ++ (b ++ (c ++ (d ++ (e ++ f))))

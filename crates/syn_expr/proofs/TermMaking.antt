@@ -18,7 +18,7 @@ use Rattle.syn_form.specs.Scopes.{TextScope}
 use Rattle.syn_form.specs.Sorts.{makes_term}
 use Rattle.syn_expr.proofs.Options.{all_more, one_missing}
 use Rattle.syn_expr.proofs.TermSyntaxes.{fold-Applied}
-use Rattle.syn_plain.proofs.Sorting.{application_of, makes_of, makes_bare}
+use Rattle.syn_form.proofs.Sorting.{application_of, makes_of, makes_bare}
 
 module _ (table : SymbolTable) (f : SymId) (args : List TermTree) where
   abbrev made : Option TermTree → Type 0

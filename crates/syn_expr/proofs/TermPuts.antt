@@ -35,7 +35,7 @@ use Rattle.syn_form.specs.Printing.{Printed, applied_text, applied_printed, numb
 use Rattle.syn_expr.proofs.TermSyntaxes.{fold-Number, fold-RowVar, fold-Alone, fold-Applied}
 use Rattle.syn_expr.proofs.TreeReadings.{Written, applied_syntax, applied_written, number_written, successor_written, kind_written, symbol_written, syntaxes_of, sort_written, var_written, written_step, writing_of, term_written}
 use Rattle.syn_expr.proofs.Puts.{PutsWords, Puts, EachPuts, IsOfKind, token_puts, head_puts}
-use Rattle.syn_plain.proofs.TermNodes.{node-Var, node-App, parts-App, by_term_cases}
+use Rattle.syn_form.proofs.TermNodes.{node-Var, node-App, parts-App, by_term_cases}
 
 -- the text has the words of the syntax tree, and both are the same number or none
 pub record TermPuts (p : Printed) (w : Written) : Type 0 where

@@ -7,7 +7,7 @@ use std::test::Fail;
 use syn_expr::{ExprError, Scope, read_form, read_out, read_qform, read_term};
 use syn_form::{Form, Mono, Out, QForm};
 use syn_term::{Bank, NoMemory, Sort, SymId, Term, Text, Var};
-use syn_theory::{Decl, DeclError, Theory};
+use syn_model::{Decl, DeclError, Theory};
 
 const NAT: Sort = Sort::Nat;
 

@@ -20,3 +20,16 @@ pub mod SignLaws
 pub mod Members
 pub mod Banks
 pub mod Testing
+pub mod QForms
+pub mod QNodes
+pub mod TermNodes
+pub mod Sorting
+pub mod Variables
+pub mod SpokenVars
+pub mod Numbering
+pub mod Deciding
+pub mod SortedTerms
+pub mod FormedForms
+pub mod Cuts
+pub mod FreeNames
+pub mod PlainTrees

@@ -16,3 +16,6 @@ pub mod Quantified
 pub mod Elaboration
 pub mod Texts
 pub mod Joining
+pub mod Sorted
+pub mod Heads
+pub mod Numbers
