@@ -110,7 +110,7 @@ pub(crate) fn check(
     ensures symbols { IfOk result (λ c. c.syms ≡ nat_program_symbols spec.now.program.now spec.now.input.now) }
     ensures rows { MatchResult result (λ c. (theory : TheoryTree) → IsProven theory (reading_spec spec.now) (map entry_of rows.now) (nat_program spec.now.program.now spec.now.input.now c.body)) (FailsCheck (reading_spec spec.now) (map entry_of rows.now)) }
 {
-    let mut bank = Bank::new();
+    let mut bank = Bank::new(alloc);
     let syms = symbols_of(alloc, spec.program, spec.input)?;
     let target = term_of(alloc, &mut bank, &syms, spec.term)?;
     let kept = replay(alloc, &mut bank, &syms, &target, rows)?;

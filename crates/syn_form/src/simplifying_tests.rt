@@ -281,7 +281,7 @@ fn make_bench(alloc: Global) -> Result<Bench, Fail>
     ensures { IfOk result (λ bench. OfOneBank (bench.a ∷ bench.b ∷ [])) }
 {
     let mut syms = Symbols::new(alloc)?;
-    let mut bank = Bank::new();
+    let mut bank = Bank::new(alloc);
     let nat = Some(Sort::Nat);
     let le = declared(
         alloc,

@@ -18,7 +18,7 @@ fn variable(alloc: Global, bank: &mut Bank, number: u32) -> Result<Term, NoMemor
 
 /// `le(a, b) -> a = b`
 fn le_implies_equal(alloc: Global) -> Result<Form, NoMemory> {
-    let mut bank = Bank::new();
+    let mut bank = Bank::new(alloc);
     let a = variable(alloc, &mut bank, 1)?;
     let b = variable(alloc, &mut bank, 2)?;
     let mut args = Items::new(alloc);
@@ -141,7 +141,7 @@ fn given_again(bank: &Bank, t: Term) -> Result<bool, NoMemory>
 #[test]
 fn measures_and_compares_outputs(rt: HostRuntime) -> Result<(), Fail> {
     let alloc = rt.alloc();
-    let mut bank = Bank::new();
+    let mut bank = Bank::new(alloc);
     let a = variable(alloc, &mut bank, 1)?;
     let arm = Shared::new(alloc, Out::Give(a.again()?))?;
     let o = Out::If(Shared::new(alloc, Form::True)?, arm.again()?, arm);

@@ -24,3 +24,5 @@ pub mod SkolemLemmas
 pub mod SymbolLaws
 pub mod KeyLemmas
 pub mod SortLemmas
+pub mod TableLaws
+pub mod Indexed

@@ -36,7 +36,7 @@ impl Model for Bank {
 
 impl Bank {
     /// A bank that has made no node.
-    pub fn new() -> Bank
+    pub fn new(_alloc: Global) -> Bank
         ensures { result ≡ new_bank }
     {
         Bank { made: 0 }

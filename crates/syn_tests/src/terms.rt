@@ -10,7 +10,7 @@ const SUCC: SymId = SymId(1);
 fn makes_variables(rt: HostRuntime) -> Result<(), Fail> {
     let alloc = rt.alloc();
     let syms = Symbols::new(alloc)?;
-    let mut bank = Bank::new();
+    let mut bank = Bank::new(alloc);
     let v = Var {
         number: 7,
         sort: Sort::Nat,
@@ -29,7 +29,7 @@ fn makes_variables(rt: HostRuntime) -> Result<(), Fail> {
 fn makes_applications(rt: HostRuntime) -> Result<(), Fail> {
     let alloc = rt.alloc();
     let syms = Symbols::new(alloc)?;
-    let mut bank = Bank::new();
+    let mut bank = Bank::new(alloc);
     let Some(zero) = bank.app(alloc, &syms, ZERO, &[])? else {
         return Err(Fail::new("zero"));
     };
@@ -54,7 +54,7 @@ fn makes_applications(rt: HostRuntime) -> Result<(), Fail> {
 fn refuses_applications(rt: HostRuntime) -> Result<(), Fail> {
     let alloc = rt.alloc();
     let syms = Symbols::new(alloc)?;
-    let mut bank = Bank::new();
+    let mut bank = Bank::new(alloc);
     assert!(rt; bank.app(alloc, &syms, SUCC, &[])?.is_none());
     assert!(rt; bank.app(alloc, &syms, SymId(2), &[])?.is_none());
     assert_eq!(rt; bank.made(), 0);
@@ -64,7 +64,7 @@ fn refuses_applications(rt: HostRuntime) -> Result<(), Fail> {
 #[test]
 fn compares_terms(rt: HostRuntime) -> Result<(), Fail> {
     let alloc = rt.alloc();
-    let mut bank = Bank::new();
+    let mut bank = Bank::new(alloc);
     let nat = Sort::Nat;
     let first = bank.var(
         alloc,
