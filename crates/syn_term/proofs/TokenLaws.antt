@@ -1,13 +1,12 @@
 -- Where a token begins, it is one of its kind, and none at that place is longer.
 use Rattle.std.proofs.Common.{◌≡◌, ℕ, ◌<◌, ◌≤◌, ◌&&◌, Bool, true, false, List, cond, nat_eq, length, get_or, take, refl, sym, ◌∙◌, ap, subst, arith, ⊎_elim}
 use Rattle.std.specs.Char.{is_ascii_digit, is_ascii_alphabetic}
-use Rattle.std.specs.Str.Lossy.{utf8_valid_len}
 use Rattle.std.proofs.lemmas.List.{length-take-le, get_or-take}
 use Rattle.std.proofs.lemmas.Bool.{cases_lt}
 use Rattle.std.proofs.lemmas.Bool.Decides.{nat_tests}
 use Rattle.syn_term.specs.declared.tokens.TokenKind.{TokenKind}
 use Rattle.syn_term.specs.declared.tokens.TokenKind.TheVariants as kind
-use Rattle.syn_term.specs.Tokens.{gap, over, bad, token, IsToken, IsLongest, CutsWord, starts, token_at, some_token, comment, is_blank, number_len, row_len, skolem_len, sign_len, sign_of, is_single_sign, name_len}
+use Rattle.syn_term.specs.Tokens.{gap, over, bad, token, IsToken, IsLongest, CutsWord, starts, token_at, some_token, comment, comment_len, is_blank, number_len, row_len, skolem_len, sign_len, sign_of, is_single_sign, name_len}
 use Rattle.syn_term.proofs.Passes.{some_of, eq_of, eq_is, above}
 use Rattle.syn_term.proofs.BeginsCases.{gap_token, over_token, bad_token, token_kind, token_length}
 use Rattle.syn_term.proofs.WordRuns.{IsWord, name_is_word, word_name, word_first, word_nonempty}
@@ -30,14 +29,14 @@ no_comment rest v k n e =
 begun : (rest : List ℕ) (k : TokenKind) (n : ℕ) → starts rest ≡ token k n → (0 < length rest) × (token_at rest (get_or rest 0 0) ≡ token k n)
 unfolding starts
 begun rest k n e =
-    elim (nat_eq (length rest) 0) as (λ z. nat_eq (length rest) 0 ≡ z → cond z over (cond (is_blank (get_or rest 0 0)) gap (cond (nat_eq (get_or rest 0 0) 35) (comment rest (utf8_valid_len rest)) (token_at rest (get_or rest 0 0)))) ≡ token k n → (0 < length rest) × (token_at rest (get_or rest 0 0) ≡ token k n)) [
+    elim (nat_eq (length rest) 0) as (λ z. nat_eq (length rest) 0 ≡ z → cond z over (cond (is_blank (get_or rest 0 0)) gap (cond (nat_eq (get_or rest 0 0) 35) (comment rest (comment_len rest)) (token_at rest (get_or rest 0 0)))) ≡ token k n → (0 < length rest) × (token_at rest (get_or rest 0 0) ≡ token k n)) [
       | true ↦ (λ t h. absurd (over_token k n h))
       | false ↦ (λ t h. (
         some_of (length rest) t,
-        elim (is_blank (get_or rest 0 0)) as (λ z. cond z gap (cond (nat_eq (get_or rest 0 0) 35) (comment rest (utf8_valid_len rest)) (token_at rest (get_or rest 0 0))) ≡ token k n → token_at rest (get_or rest 0 0) ≡ token k n) [
+        elim (is_blank (get_or rest 0 0)) as (λ z. cond z gap (cond (nat_eq (get_or rest 0 0) 35) (comment rest (comment_len rest)) (token_at rest (get_or rest 0 0))) ≡ token k n → token_at rest (get_or rest 0 0) ≡ token k n) [
           | true ↦ (λ i. absurd (gap_token k n i))
-          | false ↦ (λ i. elim (nat_eq (get_or rest 0 0) 35) as (λ z. cond z (comment rest (utf8_valid_len rest)) (token_at rest (get_or rest 0 0)) ≡ token k n → token_at rest (get_or rest 0 0) ≡ token k n) [
-            | true ↦ (λ j. absurd (no_comment rest (utf8_valid_len rest) k n j))
+          | false ↦ (λ i. elim (nat_eq (get_or rest 0 0) 35) as (λ z. cond z (comment rest (comment_len rest)) (token_at rest (get_or rest 0 0)) ≡ token k n → token_at rest (get_or rest 0 0) ≡ token k n) [
+            | true ↦ (λ j. absurd (no_comment rest (comment_len rest) k n j))
             | false ↦ (λ j. j)
           ] i)
         ] h,

@@ -1,6 +1,6 @@
 -- The grammar of tokens: which bytes are a token of which kind, what begins at a place of a line, and which tokens a line
 -- is made of.
-use Rattle.std.specs.Prelude.{◌≡◌, ℕ, ◌+◌, ◌<◌, ◌≤◌, ◌^◌, ◌⊎◌, Bool, cond, ◌&&◌, ◌||◌, List, [], ◌∷◌, ◌++◌, All, Contains, codes, decimal, length, get_or, take, drop, nat_eq, nat_lt}
+use Rattle.std.specs.Prelude.{◌≡◌, ℕ, ◌+◌, ◌<◌, ◌≤◌, ◌^◌, ◌⊎◌, Bool, true, false, cond, ◌&&◌, ◌||◌, List, [], ◌∷◌, ◌++◌, All, Contains, codes, decimal, length, get_or, take, drop, nat_eq, nat_lt}
 use Rattle.std.specs.Char.{encode_utf8, is_ascii_digit}
 use Rattle.std.specs.Str.{byte, chars, bytes_eq}
 use Rattle.std.specs.Str.Lossy.{utf8_valid_len}
@@ -145,8 +145,20 @@ token_at rest b =
 abbrev pub is_blank : ℕ → Bool
 is_blank b = nat_eq b 32 || (nat_eq b 9 || nat_eq b 13)
 
--- A comment of n bytes: it goes up to the end of the line, or ends before a byte that is no part of a text, which begins
--- nothing.
+-- Any byte but a line feed.
+abbrev pub is_in_line : ℕ → Bool
+is_in_line b = cond (nat_eq b 10) false true
+
+-- How many bytes stand before the first line feed, or up to the end.
+abbrev pub line_len : List ℕ → ℕ
+line_len = prefix_len is_in_line
+
+-- The bytes of a comment: the longest front that is UTF-8 and has no line feed.
+unfoldable pub comment_len : List ℕ → ℕ
+comment_len rest = utf8_valid_len (take (line_len rest) rest)
+
+-- A comment of n bytes: it goes up to the end of the line, or ends before a line feed or a byte that is no part of a text,
+-- which begins nothing.
 abbrev pub comment : List ℕ → ℕ → Begins
 comment rest n = cond (nat_eq n (length rest)) over (bad n)
 
@@ -156,7 +168,7 @@ unfoldable pub starts : List ℕ → Begins
 starts rest =
     cond (nat_eq (length rest) 0) over
     (cond (is_blank (get_or rest 0 0)) gap
-    (cond (nat_eq (get_or rest 0 0) (byte "#")) (comment rest (utf8_valid_len rest))
+    (cond (nat_eq (get_or rest 0 0) (byte "#")) (comment rest (comment_len rest))
     (token_at rest (get_or rest 0 0))))
 
 -- A front of so many bytes ends in the middle of a word: the next character would go on with it.
