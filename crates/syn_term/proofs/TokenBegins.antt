@@ -125,7 +125,7 @@ no_sort : (rest : List ℕ) → nat_eq (get_or rest 0 0) 58 ≡ false → sort_l
 unfolding sort_len
 no_sort rest h = ap (λ (z : Bool). cond z (joined 1 (free_name_len (drop 1 rest))) 0) h
 
-row_of : (number rest : List ℕ) (s : ℕ) → IsNumber number → is_ascii_digit (get_or rest 0 0) ≡ false → sort_len rest ≡ s → row_len (63 ∷ (number ++ rest)) ≡ 1 + (length number + s)
+pub row_of : (number rest : List ℕ) (s : ℕ) → IsNumber number → is_ascii_digit (get_or rest 0 0) ≡ false → sort_len rest ≡ s → row_len (63 ∷ (number ++ rest)) ≡ 1 + (length number + s)
 unfolding row_len
 row_of number rest s n ends e =
     let c : counted_len (number ++ rest) ≡ length number = counted_is number rest n ends in
@@ -168,7 +168,7 @@ tag_some : (tag : List ℕ) → IsTag tag → 0 < length tag
 tag_some tag is =
     ⊎_elim (λ e. subst (λ (z : List ℕ). 0 < length z) (sym e) (omega arith)) (λ more. ⊎_elim (λ e. subst (λ (z : List ℕ). 0 < length z) (sym e) (omega arith)) (λ named. name_nonempty tag named) more) is
 
-skolem_whole : (tag number rest : List ℕ) → IsTag tag → IsNumber number → is_ascii_digit (get_or rest 0 0) ≡ false → skolem_len (33 ∷ (tag ++ 46 ∷ (number ++ rest))) ≡ 1 + (length tag + (1 + length number))
+pub skolem_whole : (tag number rest : List ℕ) → IsTag tag → IsNumber number → is_ascii_digit (get_or rest 0 0) ≡ false → skolem_len (33 ∷ (tag ++ 46 ∷ (number ++ rest))) ≡ 1 + (length tag + (1 + length number))
 skolem_whole tag number rest t n ends =
     skolem_of tag (46 ∷ (number ++ rest)) (1 + length number) (tag_some tag t)
     (tag_is tag (46 ∷ (number ++ rest)) t (run_at_mark (46 ∷ (number ++ rest)) 46 refl (omega arith) refl))
