@@ -2,7 +2,7 @@
 // each kind tells its length; 0 says that none begins.
 ghost use Rattle.std.specs.Prelude.{◌≡◌, ◌≤◌, ◌<◌, length};
 ghost use Rattle.syn_term.specs.Tokens as tokens;
-ghost use Rattle.syn_lex.specs.Lexing.{seen, Within};
+ghost use Rattle.syn_lex.specs.inner.Finding.{seen, Within};
 
 use crate::token::What;
 use crate::words::{

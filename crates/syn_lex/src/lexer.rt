@@ -3,7 +3,7 @@
 // the one that is answered.
 ghost use Rattle.std.specs.Prelude.{◌≡◌, ◌++◌, ◌∷◌, [], OnOk, IfErr, IfOk, MatchResult, All};
 ghost use Rattle.syn_term.specs.Tokens.{Spelled, OneSpelling, SpacedWords};
-ghost use Rattle.syn_lex.specs.Lexing.{Lexed, Refused, OneAnswer, words_of, IsWhole};
+ghost use Rattle.syn_lex.specs.Lexing.{Faulty, IsLongestToken, IsTokens, Lexed, OneAnswer, Refused, words_of};
 
 use crate::begins::starts;
 use crate::token::{LexError, Token, What};
@@ -46,18 +46,19 @@ fn scan(alloc: Global, line: &[u8]) -> Result<Vec<Token>, LexError>
     Ok(found)
 }
 
-/// The tokens of a line, in order. Each is one of its kind, and no longer front of what stands at its
-/// place is a token of any kind, but a row variable whose sort would be cut off in the middle of a
-/// word: `?1:nat` is `?1`, `:` and `nat`. Between the tokens lie spaces, tabs and carriage returns,
+/// The tokens of a line, in order. Each is the longest at its place that is not cut off in the middle
+/// of a word or a number: `?1:nat` is `?1`, `:` and `nat`, since `nat` is no name and `?1:na` is cut off,
+/// and a word of more than 64 bytes begins no token. Between the tokens lie spaces, tabs and carriage returns,
 /// and behind them at most a comment, which `#` begins. Words that are tokens, written with a space
 /// between, are a line of just these tokens. `At(p)` is answered where the byte at `p` is the first that
 /// begins no token, blank or comment. A line feed begins nothing, and no comment goes on past it.
 pub fn tokens(alloc: Global, line: &[u8]) -> Result<Vec<Token>, LexError>
     ensures answer { MatchResult result (λ found. Lexed line.now found.items) (Refused line.now) }
+    ensures grammar { MatchResult result (λ found. IsTokens line.now found.items) (Faulty line.now) }
     ensures one { OneAnswer line.now }
     ensures words { IfOk result (λ found. Spelled line.now (words_of line.now found.items)) }
     ensures one_spelling { OneSpelling line.now }
-    ensures each { IfOk result (λ found. All (IsWhole line.now) found.items) }
+    ensures each { IfOk result (λ found. All (IsLongestToken line.now) found.items) }
     ensures spaced { SpacedWords }
 {
     scan(alloc, line)

@@ -1,5 +1,5 @@
 -- The row variable at the front of some bytes: what is counted is one that is not cut off, and no longer one is whole.
-use Rattle.std.proofs.Common.{◌≡◌, ℕ, ◌+◌, ◌-◌, ◌<◌, ◌≤◌, ◌⊎◌, inl, inr, Bool, true, false, List, [], ◌∷◌, ◌++◌, cond, nat_eq, length, get_or, take, drop, refl, sym, ◌∙◌, ap, subst, arith, take-add, append-nil, true≢false, ⊎_elim}
+use Rattle.std.proofs.Common.{◌≡◌, ℕ, ◌+◌, ◌-◌, ◌<◌, ◌≤◌, inl, inr, Bool, true, false, List, [], ◌∷◌, ◌++◌, cond, nat_eq, length, get_or, take, drop, refl, sym, ◌∙◌, ap, subst, arith, take-add, append-nil, true≢false, ⊎_elim}
 use Rattle.std.specs.Char.{is_ascii_digit}
 use Rattle.std.proofs.lemmas.List.{length-drop, drop-drop, get_or-drop}
 use Rattle.syn_term.specs.Names.{IsName, IsNumber}
@@ -186,11 +186,11 @@ row_not_cut bs le some h =
     let is : take (row_len bs) bs ≡ 63 ∷ (h.row.number ++ []) = h.row.is ∙ ap (λ (z : List ℕ). 63 ∷ (h.row.number ++ z)) bare.0 in
     true≢false (sym bare.1 ∙ bare_whole bs h.row.number le h.row.numbered is some))
     (λ sorted. ⊎_elim
-        (λ e. none_there h.row.sort e sorted.0)
-        (λ s.
-        let is : take (row_len bs) bs ≡ 63 ∷ (h.row.number ++ 58 ∷ s.0) = h.row.is ∙ ap (λ (z : List ℕ). 63 ∷ (h.row.number ++ z)) s.2 in
-        none_continues (front_chars (drop (row_len bs) bs)) (sorted_whole bs h.row.number s.0 le h.row.numbered is some) sorted.1)
-        h.row.sorted)
+    (λ e. none_there h.row.sort e sorted.0)
+    (λ s.
+    let is : take (row_len bs) bs ≡ 63 ∷ (h.row.number ++ 58 ∷ s.0) = h.row.is ∙ ap (λ (z : List ℕ). 63 ∷ (h.row.number ++ z)) s.2 in
+    none_continues (front_chars (drop (row_len bs) bs)) (sorted_whole bs h.row.number s.0 le h.row.numbered is some) sorted.1)
+    h.row.sorted)
     h.cut
   where
     none_there : (sort : List ℕ) → sort ≡ [] → 0 < length sort → ⊥

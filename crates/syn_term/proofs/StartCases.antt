@@ -1,10 +1,10 @@
 -- What the scanner's account of a place says of its first byte, for each thing that begins there.
-use Rattle.std.proofs.Common.{◌≡◌, ℕ, ◌<◌, Bool, true, false, List, [], cond, nat_eq, length, get_or, refl, sym, ◌∙◌, ap, true≢false}
+use Rattle.std.proofs.Common.{◌≡◌, ℕ, Bool, true, false, List, cond, nat_eq, length, get_or, refl, sym, ◌∙◌, ap, true≢false}
 use Rattle.std.specs.Char.{is_ascii_digit}
 use Rattle.syn_term.specs.declared.tokens.TokenKind.{TokenKind}
 use Rattle.syn_term.specs.declared.tokens.TokenKind.TheVariants as kind
 use Rattle.syn_term.specs.Tokens.{Start, gap, over, bad, token, BeginsNothing, starts, token_at, some_token, comment, comment_len, is_blank, name_len, number_len, row_len, skolem_len, sign_len}
-use Rattle.syn_term.proofs.Passes.{some_of, eq_of, eq_is}
+use Rattle.syn_term.proofs.Passes.{eq_of, eq_is}
 use Rattle.syn_term.proofs.BeginsCases.{bad_gap, over_gap, over_bad, bad_same, gap_token}
 use Rattle.syn_term.proofs.WholeTokens.{none_whole}
 

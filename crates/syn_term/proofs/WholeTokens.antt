@@ -1,5 +1,5 @@
 -- Where a token begins, it is not cut off, and where nothing begins, no front is a whole token.
-use Rattle.std.proofs.Common.{◌≡◌, ℕ, ◌+◌, ◌<◌, ◌≤◌, inl, inr, Bool, false, List, [], ◌∷◌, ◌++◌, cond, nat_eq, length, get_or, take, drop, refl, sym, ◌∙◌, ap, subst, arith, Contains, ⊎_elim, true≢false, append_assoc}
+use Rattle.std.proofs.Common.{◌≡◌, ℕ, ◌+◌, ◌<◌, ◌≤◌, inl, Bool, false, List, ◌∷◌, ◌++◌, cond, length, get_or, take, drop, refl, sym, ◌∙◌, ap, subst, arith, ⊎_elim, true≢false, append_assoc}
 use Rattle.std.specs.Char.{is_ascii_digit}
 use Rattle.std.proofs.lemmas.List.{length-take-le, get_or-take, take-append-drop}
 use Rattle.syn_term.specs.declared.tokens.TokenKind.{TokenKind}
@@ -13,7 +13,7 @@ use Rattle.syn_term.proofs.NameLaws.{skolem_is}
 use Rattle.syn_term.proofs.WordRuns.{IsWord, name_is_word, word_nonempty}
 use Rattle.syn_term.proofs.ReservedWords.{reserved_word}
 use Rattle.syn_term.proofs.NameRuns.{name_ends, name_whole}
-use Rattle.syn_term.proofs.NumberRuns.{number_counted, number_first, number_nonempty, number_digits}
+use Rattle.syn_term.proofs.NumberRuns.{number_counted, number_first, number_nonempty}
 use Rattle.syn_term.proofs.RowRuns.{row_first, row_not_cut}
 use Rattle.syn_term.proofs.SkolemRuns.{skolem_first, skolem_ends}
 use Rattle.syn_term.proofs.SignRuns.{sign_longest}
