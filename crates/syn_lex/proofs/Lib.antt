@@ -6,4 +6,5 @@ pub mod Window
 pub mod TokenSteps
 pub mod OneAnswer
 pub mod Spelling
-pub mod Whole
+pub mod Comments
+pub mod ByGrammar

@@ -1,4 +1,4 @@
--- The lines of a file. A line feed ends a line; bytes after the last line feed are a further line, and a file without
+-- Public. The lines of a file. A line feed ends a line; bytes after the last line feed are a further line, and a file without
 -- bytes has no line.
 use Rattle.std.specs.Prelude.{◌≡◌, ℕ, ◌+◌, ◌<◌, ◌≤◌, List, [], ◌∷◌, MatchBool, cond, length, get_or}
 use Rattle.syn_lex.specs.declared.lines.Line.{Line}

@@ -82,27 +82,3 @@ pub fn split_lines(alloc: Global, bytes: &[u8]) -> Result<Vec<Line>, NoMemory>
 {
     scan_lines(alloc, bytes)
 }
-
-#[cfg(test)]
-mod tests {
-    use super::*;
-
-    fn splits(alloc: Global, bytes: &[u8], expected: &[Line]) -> bool {
-        match split_lines(alloc, bytes) {
-            Ok(lines) => lines.as_slice() == expected,
-            Err(_) => false,
-        }
-    }
-
-    fn line(from: u64, to: u64, ended: bool) -> Line {
-        Line { from, to, ended }
-    }
-
-    #[test]
-    fn tells_lines(rt: HostRuntime) {
-        let lines = [line(0, 1, true), line(2, 2, true), line(3, 4, false)];
-        assert!(rt; splits(rt.alloc(), b"a\n\nb", &lines));
-        assert!(rt; splits(rt.alloc(), b"a\n", &[line(0, 1, true)]));
-        assert!(rt; splits(rt.alloc(), b"", &[]));
-    }
-}
