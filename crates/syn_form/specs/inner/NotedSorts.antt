@@ -1,4 +1,4 @@
--- Which sort was noted for each number.
+-- Inner. Which sort was noted for each number.
 use Rattle.std.specs.Prelude.{◌≡◌, ℕ, Bool, true, false, Option, Some, if◌then◌else◌, nat_eq}
 use Rattle.syn_term.specs.declared.sorts.Sort.{Sort}
 use Rattle.syn_term.specs.declared.sorts.Var.{Var}

@@ -1,4 +1,4 @@
--- The numbers of binders.
+-- Inner. The numbers of binders.
 use Rattle.std.specs.Prelude.{◌≡◌, ℕ, List, length, map}
 use Rattle.std.specs.List.{range_with_len}
 use Rattle.syn_form.specs.declared.trees.Binder.{Binder}

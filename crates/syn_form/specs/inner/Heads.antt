@@ -1,4 +1,4 @@
--- The sort of what stands at the top of a term.
+-- Inner. The sort of what stands at the top of a term.
 use Rattle.std.specs.Prelude.{Option, Some}
 use Rattle.std.specs.Option.{option_and_then}
 use Rattle.syn_term.specs.declared.sorts.Sort.{Sort}

@@ -1,4 +1,4 @@
--- What the code of simplification is told by: the connective that it names, and what it asks of members.
+-- Inner. What the code of simplification is told by: the connective that it names, and what it asks of members.
 use Rattle.std.specs.Prelude.{Bool, not, List}
 use Rattle.std.specs.List.{flat_map}
 use Rattle.syn_term.specs.Terms.{TermTree}
