@@ -15,7 +15,4 @@ pub mod Lists
 pub mod Quantified
 pub mod Elaboration
 pub mod Texts
-pub mod Joining
-pub mod Sorted
-pub mod Heads
-pub mod Numbers
+pub mod inner

@@ -14,13 +14,9 @@ mod plain;
 mod quantified;
 mod signs;
 mod simplifying;
-#[cfg(test)]
-mod simplifying_tests;
 mod sorts;
 mod syntax;
 mod terms;
-#[cfg(test)]
-mod tests;
 mod trees;
 mod vars;
 
