@@ -138,6 +138,16 @@ IsRefusal status.WriteFault = ⊥
 IsRefusal status.NoMemory = ⊥
 IsRefusal _ = Unit {0}
 
+-- no read failed by the outside's fault, unless the status tells one
+abbrev pub TellsReads : Status → ℕ → ℕ → Type 0
+TellsReads (status.ReadFault w) before now = Unit {0}
+TellsReads _ before now = now ≡ before
+
+-- no put did, unless the status tells one
+abbrev pub TellsPuts : Status → ℕ → ℕ → Type 0
+TellsPuts status.WriteFault before now = Unit {0}
+TellsPuts _ before now = now ≡ before
+
 -- the words fit, and P holds of the bytes of the first file; of the first two
 abbrev pub OfFirst : List (List ℕ) → Option (List File) → (List ℕ → Type 0) → Type 0
 OfFirst words files P = (n : FileNames) × (AreWords words n × OfTheory files n P)

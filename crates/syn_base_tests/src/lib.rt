@@ -3,3 +3,6 @@
 //! answer comes.
 #![tactic(auto)]
 
+
+#[cfg(test)]
+mod outside;

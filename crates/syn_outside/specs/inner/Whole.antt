@@ -1,4 +1,4 @@
--- A file that is read part by part, and how far a reader has come.
+-- For private contracts: a file that is read part by part, and how far a reader has come.
 use Rattle.std.specs.Prelude.{◌≡◌, ℕ, ◌+◌, ◌<◌, ◌≤◌, List, ◌++◌, length, take, drop, Option, Some, None}
 use Rattle.syn_outside.specs.Files.{File, file_of, Told}
 
@@ -17,6 +17,6 @@ pub record TakesPart (files : Option (List File)) (name old new : List ℕ) (k :
   pub told : Told (AddsPart old new k) files name
 
 -- What a reader has taken is the file's beginning, and the file is there if anything was taken.
-pub record IsBeginning (files : Option (List File)) (name taken : List ℕ) : Type 0 where
+pub record HasTaken (files : Option (List File)) (name taken : List ℕ) : Type 0 where
   pub is : (bytes : List ℕ) → IsFile files name bytes → taken ≡ take (length taken) bytes
   pub there : 0 < length taken → Told (λ bytes. length taken ≤ length bytes) files name
