@@ -183,7 +183,7 @@ fn bring_last(alloc: Global, syms: &mut Symbols, decls: &[Decl]) -> Result<bool,
 fn drop_last(decls: &mut Items<Decl>)
     ensures { (ds : _) (d : Decl) → decls.old ≡ ds ++ d ∷ [] → decls.new ≡ ds }
 {
-    let _ = decls.pop();
+    drop(decls.pop());
 }
 
 impl Theory {
