@@ -221,7 +221,7 @@ fn decl(alloc: Global, theory: &Theory, line: Line) -> Result<Decl, Fail> {
 /// Whether the theory took the declaration.
 fn is_taken(alloc: Global, theory: &mut Theory, line: Line) -> Result<bool, Fail> {
     let decl = decl(alloc, theory, line)?;
-    match theory.declare(alloc, decl) {
+    match theory.declare(decl) {
         Ok(()) => Ok(true),
         Err(DeclError::Refused) => Ok(false),
         Err(DeclError::NoMemory) => Err(Fail::new("no memory")),

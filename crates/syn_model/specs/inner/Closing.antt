@@ -1,4 +1,4 @@
--- The variables that the quantifiers around a place bind.
+-- For private contracts: the variables that the quantifiers around a place bind.
 use Rattle.std.specs.Prelude.{List, [], ◌∷◌}
 use Rattle.syn_term.specs.declared.sorts.Var.{Var}
 use Rattle.syn_model.specs.declared.closed.Bound.{Bound, fold-Bound}

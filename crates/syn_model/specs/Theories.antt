@@ -1,4 +1,4 @@
--- A theory as its users see it, and what it is to put a declaration down.
+-- For public contracts: a theory as its users see it, and what it is to put a declaration down.
 use Rattle.std.specs.Prelude.{◌≡◌, ℕ, Bool, true, false, List, [], ◌∷◌, ◌++◌}
 use Rattle.syn_term.specs.Symbols.{SymbolTable, MayAdd}
 use Rattle.syn_term.specs.DeclaredSorts.{MayAddList, MayAddTuple}
@@ -7,16 +7,16 @@ use Rattle.syn_model.specs.declared.decl.Decl.TheVariants as decl
 use Rattle.syn_model.specs.Tables.{fun_symbol, order_symbol, rel_symbol}
 
 -- a theory: its name and its declarations
-pub record TheoryParts : Type 0 where
+pub record TheoryTree : Type 0 where
   pub name : List ℕ
   pub decls : List Decl
 
 -- the theory of this name that declares nothing
-abbrev pub bare_theory : List ℕ → TheoryParts
+abbrev pub bare_theory : List ℕ → TheoryTree
 bare_theory name = record { name = name; decls = [] }
 
 -- the theory with one more declaration behind the others
-abbrev pub with_decl : TheoryParts → Decl → TheoryParts
+abbrev pub with_decl : TheoryTree → Decl → TheoryTree
 with_decl t d = record { name = t.name; decls = t.decls ++ d ∷ [] }
 
 -- a step is taken exactly where it may be, and otherwise all stays as it was
