@@ -1,4 +1,5 @@
 pub mod Trees
+pub mod Positions
 pub mod Same
 pub mod Banks
 pub mod Lists
@@ -26,3 +27,4 @@ pub mod KeyLemmas
 pub mod SortLemmas
 pub mod TableLaws
 pub mod Indexed
+pub mod Copies
