@@ -3,3 +3,15 @@
 //! answer comes.
 #![tactic(auto)]
 
+#[cfg(test)]
+mod names;
+#[cfg(test)]
+mod positions;
+#[cfg(test)]
+mod sorts;
+#[cfg(test)]
+mod symbols;
+#[cfg(test)]
+mod terms;
+#[cfg(test)]
+mod words;

@@ -1,5 +1,5 @@
 use Rattle.syn_term.specs.Bank.{Agree-belongs, Belongs-extends, Extends-trans}
-use Rattle.syn_tests.proofs.terms.compares_terms.Goals as goal
+use Rattle.syn_base_tests.proofs.terms.compares_terms.Goals as goal
 
 pub same-requires : goal.same-requires
 same-requires g c =
