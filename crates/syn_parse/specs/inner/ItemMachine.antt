@@ -1,4 +1,4 @@
--- The machine that puts terms and equalities together, one piece at a time.
+-- Private: the machine that puts terms and equalities together, one phrase at a time.
 use Rattle.std.specs.Prelude.{ℕ, ◌+◌, ◌-◌, List, [], ◌∷◌, ◌++◌, Option, None, Some, if◌then◌else◌, nat_lt}
 use Rattle.std.specs.Option.{option_and_then, option_map}
 use Rattle.syn_form.specs.declared.syntax.Mark.{Mark}
@@ -13,8 +13,8 @@ use Rattle.syn_form.specs.declared.syntax.TermSyntax.{TermSyntax, out-TermSyntax
 use Rattle.syn_form.specs.declared.syntax.TermSyntax.TheOpen.{TermSyntax-F}
 use Rattle.syn_form.specs.declared.syntax.TermSyntax.TheVariants as term
 use Rattle.syn_form.specs.declared.syntax.TermSyntax.TheViews as view
-use Rattle.syn_parse.specs.declared.binding.Piece.{Piece}
-use Rattle.syn_parse.specs.declared.binding.Piece.TheVariants as piece
+use Rattle.syn_parse.specs.declared.phrase_reader.Phrase.{Phrase}
+use Rattle.syn_parse.specs.declared.phrase_reader.Phrase.TheVariants as phrase
 use Rattle.syn_parse.specs.declared.items.Item.{Item}
 use Rattle.syn_parse.specs.declared.items.Item.TheVariants as item
 use Rattle.syn_parse.specs.declared.item_reader.Call.{Call}
@@ -34,16 +34,33 @@ placed_at (Some u) r t = None
 abbrev pub placed : ItemReader → TermSyntax → Option ItemReader
 placed r t = placed_at r.last r t
 
--- the items with the last term, or with the equality that ends with it
+-- the item that a term ends: itself, or an equality
+abbrev pub item_of : Option TermSyntax → TermSyntax → Item
+item_of None t = item.Term t
+item_of (Some s) t = item.Equal s t
+
+-- where no term is, no left side of an equality may stand
+abbrev pub unless_left : Option TermSyntax → List Item → Option (List Item)
+unless_left None items = Some items
+unless_left (Some s) items = None
+
+-- the items with the one that the last term ends
 abbrev pub flushed : List Item → Option TermSyntax → Option TermSyntax → Option (List Item)
-flushed items None None = Some items
-flushed items None (Some t) = Some (items ++ item.Term t ∷ [])
-flushed items (Some s) (Some t) = Some (items ++ item.Equal s t ∷ [])
-flushed items (Some s) None = None
+flushed items left None = unless_left left items
+flushed items left (Some t) = Some (items ++ item_of left t ∷ [])
+
+abbrev pub emptied : ItemReader → List Item → ItemReader
+emptied r items = reads items None r.calls r.count None
+
+abbrev pub flush : ItemReader → Option ItemReader
+flush r = option_map (emptied r) (flushed r.items r.left r.last)
+
+abbrev pub with_next : Item → ItemReader → ItemReader
+with_next i r = record r { items = r.items ++ i ∷ [] }
 
 -- an item that ends the term before it
 abbrev pub with_item : ItemReader → Item → Option ItemReader
-with_item r i = option_map (λ items. reads (items ++ i ∷ []) None r.calls r.count None) (flushed r.items r.left r.last)
+with_item r i = option_map (with_next i) (flush r)
 
 abbrev pub head_layer : TermSyntax-F TermSyntax → Option HeadName
 head_layer (TermSyntax-F.Alone h) = Some h
@@ -56,12 +73,15 @@ head_of t = head_layer (out-TermSyntax t)
 abbrev pub call_of : HeadName → Call
 call_of h = record { head = h; args = [] }
 
+abbrev pub with_call : ItemReader → HeadName → ItemReader
+with_call r h = record r { calls = call_of h ∷ r.calls; count = r.count + 1 }
+
 -- a bracket opens behind a term, which is a head then; at most 1,263 calls are open at once
-abbrev pub opened : List Item → Option TermSyntax → List Call → ℕ → TermSyntax → Option ItemReader
-opened items left calls n t = if nat_lt n 1263 then option_map (λ h. reads items left (call_of h ∷ calls) (n + 1) None) (head_of t) else None
+abbrev pub opened : ItemReader → TermSyntax → Option ItemReader
+opened r t = if nat_lt r.count 1263 then option_map (with_call r) (head_of t) else None
 
 abbrev pub open_at : Option TermSyntax → ItemReader → Option ItemReader
-open_at (Some t) r = opened r.items r.left r.calls r.count t
+open_at (Some t) r = opened (reads r.items r.left r.calls r.count None) t
 open_at None r = with_item r (item.Fixed mark.Open)
 
 abbrev pub open_outside : ItemReader → Option ItemReader
@@ -86,16 +106,16 @@ with_arg c t = record { head = c.head; args = c.args ++ t ∷ [] }
 abbrev pub closed_call : Call → TermSyntax → TermSyntax
 closed_call c t = view.Applied c.head (c.args ++ t ∷ [])
 
--- a mark behind the argument t of the innermost open call
-abbrev pub inside : List Item → Option TermSyntax → Call → List Call → ℕ → TermSyntax → Mark → Option ItemReader
-inside items left c calls n t mark.Open = opened items left (c ∷ calls) n t
-inside items left c calls n t mark.Comma = Some (reads items left (with_arg c t ∷ calls) n None)
-inside items left c calls n t mark.Close = Some (reads items left calls (n - 1) (Some (closed_call c t)))
-inside items left c calls n t _ = None
+-- a mark behind the argument t of the innermost open call c; the reader holds neither
+abbrev pub inside : ItemReader → Call → TermSyntax → Mark → Option ItemReader
+inside r c t mark.Open = opened (record r { calls = c ∷ r.calls }) t
+inside r c t mark.Comma = Some (record r { calls = with_arg c t ∷ r.calls })
+inside r c t mark.Close = Some (record r { count = r.count - 1; last = Some (closed_call c t) })
+inside r c t _ = None
 
 abbrev pub inside_at : Option TermSyntax → ItemReader → Call → List Call → Mark → Option ItemReader
 inside_at None r c calls m = None
-inside_at (Some t) r c calls m = inside r.items r.left c calls r.count t m
+inside_at (Some t) r c calls m = inside (reads r.items r.left calls r.count None) c t m
 
 abbrev pub mark_at : List Call → ItemReader → Mark → Option ItemReader
 mark_at [] r m = outside r m
@@ -119,22 +139,23 @@ quantifier_at (c ∷ calls) r q binders = None
 abbrev pub quantifier_next : ItemReader → Quantifier → List BinderSyntax → Option ItemReader
 quantifier_next r q binders = quantifier_at r.calls r q binders
 
--- one piece
-abbrev pub step : ItemReader → Piece → Option ItemReader
-step r (piece.Word l) = word_next r l
-step r (piece.Quantifier q binders) = quantifier_next r q binders
+-- one phrase
+abbrev pub step : ItemReader → Phrase → Option ItemReader
+step r (phrase.Word l) = word_next r l
+step r (phrase.Quantifier q binders) = quantifier_next r q binders
 
-abbrev pub run : List Piece → ItemReader → Option ItemReader
+abbrev pub run : List Phrase → ItemReader → Option ItemReader
 run [] r = Some r
 run (p ∷ ps) r = option_and_then (run ps) (step r p)
 
 abbrev pub ended_at : List Call → ItemReader → Option (List Item)
-ended_at [] r = flushed r.items r.left r.last
+ended_at [] r = option_map (λ s. s.items) (flush r)
 ended_at (c ∷ calls) r = None
 
+-- the end, where no call is open
 abbrev pub ended : ItemReader → Option (List Item)
 ended r = ended_at r.calls r
 
 -- the items of a text
-abbrev pub items_of : List Piece → Option (List Item)
+abbrev pub items_of : List Phrase → Option (List Item)
 items_of ps = option_and_then ended (run ps start)

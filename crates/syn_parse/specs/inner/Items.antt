@@ -1,4 +1,4 @@
--- The items of a text: its terms, equalities and quantifiers, each put together, and the marks between them.
+-- Private: the items of a text: its terms, equalities and quantifiers, each put together, and the marks between them.
 use Rattle.std.specs.Prelude.{List, [], ◌∷◌, ◌++◌}
 use Rattle.std.specs.List.{flat_map}
 use Rattle.syn_form.specs.declared.syntax.Lexeme.{Lexeme}

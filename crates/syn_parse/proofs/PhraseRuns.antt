@@ -1,5 +1,5 @@
--- The reader of quantifiers makes the pieces of the items from the words of the items.
-use Rattle.std.proofs.Common.{◌≡◌, ℕ, ◌≤◌, Bool, true, false, if◌then◌else◌, List, [], ◌∷◌, ◌++◌, map, length, Option, None, Some, option_and_then, codes, refl, sym, ◌∙◌, ap, subst, arith, append_assoc, append-nil}
+-- The reader of quantifiers makes the phrases of the items from the words of the items.
+use Rattle.std.proofs.Common.{◌≡◌, ℕ, ◌≤◌, Bool, true, false, if◌then◌else◌, List, [], ◌∷◌, ◌++◌, map, length, Option, None, Some, option_and_then, option_map, codes, refl, sym, ◌∙◌, ap, subst, arith, append_assoc, append-nil}
 use Rattle.std.proofs.lemmas.Slice.Eq.{bytes_eq-Decides}
 use Rattle.std.proofs.lemmas.List.{map-append}
 use Rattle.std.specs.Str.{bytes_eq}
@@ -18,39 +18,39 @@ use Rattle.syn_form.specs.declared.syntax.TermSyntax.{TermSyntax}
 use Rattle.syn_form.specs.declared.syntax.TermSyntax.TheVariants as term
 use Rattle.syn_form.specs.declared.syntax.TermSyntax.TheViews as view
 use Rattle.syn_form.specs.Grammar.{fixed, head_lexeme, with_commas, quantifier_mark, sort_lexeme, words_of_binder, words_of_quantifier, words_of_term, words_of_args}
-use Rattle.syn_parse.specs.declared.binding.Piece.{Piece}
-use Rattle.syn_parse.specs.declared.binding.Piece.TheVariants as piece
-use Rattle.syn_parse.specs.declared.binding.Stage.{Stage}
-use Rattle.syn_parse.specs.declared.binding.Stage.TheVariants as stage
-use Rattle.syn_parse.specs.declared.binding.PieceReader.{PieceReader}
+use Rattle.syn_parse.specs.declared.phrase_reader.Phrase.{Phrase}
+use Rattle.syn_parse.specs.declared.phrase_reader.Phrase.TheVariants as phrase
+use Rattle.syn_parse.specs.declared.phrase_reader.BinderStage.{BinderStage}
+use Rattle.syn_parse.specs.declared.phrase_reader.BinderStage.TheVariants as stage
+use Rattle.syn_parse.specs.declared.phrase_reader.PhraseReader.{PhraseReader}
 use Rattle.syn_parse.specs.declared.items.Item.{Item}
 use Rattle.syn_parse.specs.declared.items.Item.TheVariants as item
-use Rattle.syn_parse.specs.Items.{words_of_item, words_of_items}
-use Rattle.syn_parse.specs.BindingMachine.{closed, at_stage, with_binder, sort_of, step, run, ended, pieces_of}
+use Rattle.syn_parse.specs.inner.Items.{words_of_item, words_of_items}
+use Rattle.syn_parse.specs.inner.PhraseMachine.{closed, holds, with_binder, sort_of, step, run, ended, phrases_of}
 use Rattle.syn_parse.proofs.TermShapes.{words-Number, words-RowVar, words-Alone, words-Applied, Each, by_terms}
 use Rattle.syn_parse.proofs.TermRuns.{as_words}
 
-both_runs : (xs ys : List Lexeme) → ((s : PieceReader) → run (xs ++ ys) s ≡ option_and_then (run ys) (run xs s)) → (o : Option PieceReader) → option_and_then (run (xs ++ ys)) o ≡ option_and_then (run ys) (option_and_then (run xs) o)
+both_runs : (xs ys : List Lexeme) → ((s : PhraseReader) → run (xs ++ ys) s ≡ option_and_then (run ys) (run xs s)) → (o : Option PhraseReader) → option_and_then (run (xs ++ ys)) o ≡ option_and_then (run ys) (option_and_then (run xs) o)
 both_runs xs ys h None = refl
 both_runs xs ys h (Some s) = h s
 
 -- words after words
-run-append : (xs ys : List Lexeme) (r : PieceReader) → run (xs ++ ys) r ≡ option_and_then (run ys) (run xs r)
+run-append : (xs ys : List Lexeme) (r : PhraseReader) → run (xs ++ ys) r ≡ option_and_then (run ys) (run xs r)
 run-append [] ys r = refl
 run-append (x ∷ xs) ys r = both_runs xs ys (λ s. run-append xs ys s) (step r x)
 
-then_runs : (xs ys : List Lexeme) (r s : PieceReader) → run xs r ≡ Some s → run (xs ++ ys) r ≡ run ys s
+then_runs : (xs ys : List Lexeme) (r s : PhraseReader) → run xs r ≡ Some s → run (xs ++ ys) r ≡ run ys s
 then_runs xs ys r s e = run-append xs ys r ∙ ap (option_and_then (run ys)) e
 
 -- words that stay as they are, whatever stands before them
 abbrev Stay : List Lexeme → Type 0
-Stay ls = (done : List Piece) → run ls (closed done) ≡ Some (closed (done ++ as_words ls))
+Stay ls = (done : List Phrase) → run ls (closed done) ≡ Some (closed (done ++ as_words ls))
 
 stay-nil : Stay []
-stay-nil done = ap (λ (z : List Piece). Some (closed z)) (sym (append-nil done))
+stay-nil done = ap (λ (z : List Phrase). Some (closed z)) (sym (append-nil done))
 
 stay-append : (xs ys : List Lexeme) → Stay xs → Stay ys → Stay (xs ++ ys)
-stay-append xs ys a b done = then_runs xs ys (closed done) (closed (done ++ as_words xs)) (a done) ∙ (b (done ++ as_words xs) ∙ ap (λ (z : List Piece). Some (closed z)) (append_assoc done (as_words xs) (as_words ys) ∙ ap (λ (z : List Piece). done ++ z) (sym (map-append (λ l. piece.Word l) xs ys))))
+stay-append xs ys a b done = then_runs xs ys (closed done) (closed (done ++ as_words xs)) (a done) ∙ (b (done ++ as_words xs) ∙ ap (λ (z : List Phrase). Some (closed z)) (append_assoc done (as_words xs) (as_words ys) ∙ ap (λ (z : List Phrase). done ++ z) (sym (map-append (λ l. phrase.Word l) xs ys))))
 
 stay-number : (k : ℕ) → Stay (lexeme.Number k ∷ [])
 stay-number k done = refl
@@ -103,56 +103,54 @@ sort_at s false d = refl
 sort_back : (b : BinderSyntax) → sort_of (sort_lexeme b) ≡ Some b.sort
 sort_back b = sort_at b.sort (bytes_eq b.sort (codes "nat")) (bytes_eq-Decides b.sort (codes "nat"))
 
-abbrev holds : List Piece → Quantifier → List BinderSyntax → Stage → PieceReader
-holds done q bs s = record { done = done; pending = Some (record { quantifier = q; binders = bs; stage = s }) }
 
-module _ (done : List Piece) (q : Quantifier) where
+module _ (done : List Phrase) (q : Quantifier) where
   binder_runs : (bs : List BinderSyntax) (b : BinderSyntax) → run (words_of_binder b) (holds done q bs stage.Name) ≡ Some (holds done q (bs ++ b ∷ []) stage.Next)
-  binder_runs bs b = ap (λ (o : Option (List ℕ)). option_and_then (run []) (option_and_then (λ s. at_stage done q (with_binder bs b.name s) stage.Next) o)) (sort_back b)
+  binder_runs bs b = ap (λ (o : Option (List ℕ)). option_and_then (run []) (option_map (λ s. holds done q (with_binder bs b.name s) stage.Next) o)) (sort_back b)
 
-  binders_run : (bs : List BinderSyntax) (b : BinderSyntax) (more : List BinderSyntax) → run (with_commas (map words_of_binder (b ∷ more)) ++ fixed mark.Dot ∷ []) (holds done q bs stage.Name) ≡ Some (closed (done ++ piece.Quantifier q (bs ++ b ∷ more) ∷ []))
+  binders_run : (bs : List BinderSyntax) (b : BinderSyntax) (more : List BinderSyntax) → run (with_commas (map words_of_binder (b ∷ more)) ++ fixed mark.Dot ∷ []) (holds done q bs stage.Name) ≡ Some (closed (done ++ phrase.Quantifier q (bs ++ b ∷ more) ∷ []))
   binders_run bs b [] = then_runs (words_of_binder b) (fixed mark.Dot ∷ []) (holds done q bs stage.Name) (holds done q (bs ++ b ∷ []) stage.Next) (binder_runs bs b)
   binders_run bs b (c ∷ more) =
       let rest : List Lexeme = with_commas (map words_of_binder (c ∷ more)) ++ fixed mark.Dot ∷ [] in
-      then_runs (words_of_binder b) (fixed mark.Comma ∷ rest) (holds done q bs stage.Name) (holds done q (bs ++ b ∷ []) stage.Next) (binder_runs bs b) ∙ (binders_run (bs ++ b ∷ []) c more ∙ ap (λ (z : List BinderSyntax). Some (closed (done ++ piece.Quantifier q z ∷ []))) (append_assoc bs (b ∷ []) (c ∷ more)))
+      then_runs (words_of_binder b) (fixed mark.Comma ∷ rest) (holds done q bs stage.Name) (holds done q (bs ++ b ∷ []) stage.Next) (binder_runs bs b) ∙ (binders_run (bs ++ b ∷ []) c more ∙ ap (λ (z : List BinderSyntax). Some (closed (done ++ phrase.Quantifier q z ∷ []))) (append_assoc bs (b ∷ []) (c ∷ more)))
 
-begins : (done : List Piece) (q : Quantifier) → step (closed done) (fixed (quantifier_mark q)) ≡ Some (holds done q [] stage.Name)
+begins : (done : List Phrase) (q : Quantifier) → step (closed done) (fixed (quantifier_mark q)) ≡ Some (holds done q [] stage.Name)
 begins done quantifier.All = refl
 begins done quantifier.Exists = refl
 
-quantifier_runs : (done : List Piece) (q : Quantifier) (bs : List BinderSyntax) → 1 ≤ length bs → run (words_of_quantifier q bs) (closed done) ≡ Some (closed (done ++ piece.Quantifier q bs ∷ []))
+quantifier_runs : (done : List Phrase) (q : Quantifier) (bs : List BinderSyntax) → 1 ≤ length bs → run (words_of_quantifier q bs) (closed done) ≡ Some (closed (done ++ phrase.Quantifier q bs ∷ []))
 quantifier_runs done q [] some = absurd (omega arith)
 quantifier_runs done q (b ∷ bs) some = ap (option_and_then (run (with_commas (map words_of_binder (b ∷ bs)) ++ fixed mark.Dot ∷ []))) (begins done q) ∙ binders_run done q [] b bs
 
--- the pieces of an item: a quantifier is one, and of all else each word
-abbrev pub pieces_of_item : Item → List Piece
-pieces_of_item (item.Quantifier q binders) = piece.Quantifier q binders ∷ []
-pieces_of_item i = as_words (words_of_item i)
+-- the phrases of an item: a quantifier is one, and of all else each word
+abbrev pub phrases_of_item : Item → List Phrase
+phrases_of_item (item.Quantifier q binders) = phrase.Quantifier q binders ∷ []
+phrases_of_item i = as_words (words_of_item i)
 
-abbrev pub pieces_of_items : List Item → List Piece
-pieces_of_items = flat_map pieces_of_item
+abbrev pub phrases_of_items : List Item → List Phrase
+phrases_of_items = flat_map phrases_of_item
 
 -- a quantifier binds something, and no mark begins another
-abbrev pub Bound : Item → Type 0
-Bound (item.Quantifier q binders) = 1 ≤ length binders
-Bound (item.Fixed m) = begins_none m ≡ true
-Bound _ = Unit {0}
+abbrev pub HasBinders : Item → Type 0
+HasBinders (item.Quantifier q binders) = 1 ≤ length binders
+HasBinders (item.Fixed m) = begins_none m ≡ true
+HasBinders _ = Unit {0}
 
-item_runs : (i : Item) (done : List Piece) → Bound i → run (words_of_item i) (closed done) ≡ Some (closed (done ++ pieces_of_item i))
+item_runs : (i : Item) (done : List Phrase) → HasBinders i → run (words_of_item i) (closed done) ≡ Some (closed (done ++ phrases_of_item i))
 item_runs (item.Term t) done b = term_stays t done
 item_runs (item.Equal s t) done b = stay-append (words_of_term s) (fixed mark.Equals ∷ words_of_term t) (term_stays s) (stay-append (fixed mark.Equals ∷ []) (words_of_term t) (stay-mark mark.Equals refl) (term_stays t)) done
 item_runs (item.Quantifier q binders) done b = quantifier_runs done q binders b
 item_runs (item.Fixed m) done b = stay-mark m b done
 
 -- each of the items is so
-abbrev pub AllBound : List Item → Type 0
-AllBound [] = Unit {0}
-AllBound (i ∷ is) = Bound i × AllBound is
+abbrev pub AllHaveBinders : List Item → Type 0
+AllHaveBinders [] = Unit {0}
+AllHaveBinders (i ∷ is) = HasBinders i × AllHaveBinders is
 
-items_run : (is : List Item) (done : List Piece) → AllBound is → run (words_of_items is) (closed done) ≡ Some (closed (done ++ pieces_of_items is))
+items_run : (is : List Item) (done : List Phrase) → AllHaveBinders is → run (words_of_items is) (closed done) ≡ Some (closed (done ++ phrases_of_items is))
 items_run [] done b = stay-nil done
-items_run (i ∷ is) done b = then_runs (words_of_item i) (words_of_items is) (closed done) (closed (done ++ pieces_of_item i)) (item_runs i done b.0) ∙ (items_run is (done ++ pieces_of_item i) b.1 ∙ ap (λ (z : List Piece). Some (closed z)) (append_assoc done (pieces_of_item i) (pieces_of_items is)))
+items_run (i ∷ is) done b = then_runs (words_of_item i) (words_of_items is) (closed done) (closed (done ++ phrases_of_item i)) (item_runs i done b.0) ∙ (items_run is (done ++ phrases_of_item i) b.1 ∙ ap (λ (z : List Phrase). Some (closed z)) (append_assoc done (phrases_of_item i) (phrases_of_items is)))
 
--- the pieces of the items' words are the items' pieces
-pub pieces_back : (is : List Item) → AllBound is → pieces_of (words_of_items is) ≡ Some (pieces_of_items is)
-pieces_back is b = ap (option_and_then ended) (items_run is [] b)
+-- the phrases of the items' words are the items' phrases
+pub phrases_back : (is : List Item) → AllHaveBinders is → phrases_of (words_of_items is) ≡ Some (phrases_of_items is)
+phrases_back is b = ap (option_and_then ended) (items_run is [] b)

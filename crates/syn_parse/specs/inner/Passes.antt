@@ -1,4 +1,4 @@
--- The passes that a text takes, in a row.
+-- Private: the passes that a text takes, in a row.
 use Rattle.std.specs.Prelude.{◌≡◌, ℕ, List, [], ◌∷◌, Option, None, Some, IfSome}
 use Rattle.std.specs.Option.{option_and_then}
 use Rattle.syn_form.specs.declared.syntax.Lexeme.{Lexeme}
@@ -8,18 +8,23 @@ use Rattle.syn_form.specs.declared.syntax.OutSyntax.{OutSyntax}
 use Rattle.syn_parse.specs.declared.items.Item.{Item}
 use Rattle.syn_parse.specs.declared.items.Item.TheVariants as item
 use Rattle.syn_parse.specs.Lexemes.{IsWritten}
-use Rattle.syn_parse.specs.BindingMachine as binding
-use Rattle.syn_parse.specs.ItemMachine as items
-use Rattle.syn_parse.specs.FormMachine as forms
-use Rattle.syn_parse.specs.OutMachine as outs
+use Rattle.syn_parse.specs.inner.PhraseMachine as binding
+use Rattle.syn_parse.specs.inner.ItemMachine as items
+use Rattle.syn_parse.specs.inner.FormMachine as forms
+use Rattle.syn_parse.specs.inner.OutMachine as outs
 
 -- the items that lexemes make up
 abbrev pub items_from : List Lexeme → Option (List Item)
-items_from ls = option_and_then items.items_of (binding.pieces_of ls)
+items_from ls = option_and_then items.items_of (binding.phrases_of ls)
+
+-- a term with nothing behind it
+abbrev pub alone_with : TermSyntax → List Item → Option TermSyntax
+alone_with t [] = Some t
+alone_with t (i ∷ is) = None
 
 -- the one term that items are
 abbrev pub one_term : List Item → Option TermSyntax
-one_term (item.Term t ∷ []) = Some t
+one_term (item.Term t ∷ is) = alone_with t is
 one_term _ = None
 
 -- the syntax tree that lexemes are

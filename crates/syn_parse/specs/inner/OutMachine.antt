@@ -1,4 +1,4 @@
--- The machine that reads an output from its items. It holds a stack of the choices that are open, and hands the items of a
+-- Private: the machine that reads an output from its items. It holds a stack of the choices that are open, and hands the items of a
 -- test to the machine of formulas. That it reads what the grammar says is proved of it.
 use Rattle.std.specs.Prelude.{ℕ, ◌+◌, max, nat_lt, if◌then◌else◌, List, [], ◌∷◌, Option, None, Some}
 use Rattle.std.specs.Option.{option_and_then, option_map}
@@ -15,10 +15,10 @@ use Rattle.syn_parse.specs.declared.form_reader.FormReader.{FormReader}
 use Rattle.syn_parse.specs.declared.out_reader.TallOut.{TallOut}
 use Rattle.syn_parse.specs.declared.out_reader.Arm.{Arm}
 use Rattle.syn_parse.specs.declared.out_reader.Arm.TheVariants as arm
-use Rattle.syn_parse.specs.declared.out_reader.Stage.{Stage}
-use Rattle.syn_parse.specs.declared.out_reader.Stage.TheVariants as stage
+use Rattle.syn_parse.specs.declared.out_reader.OutStage.{OutStage}
+use Rattle.syn_parse.specs.declared.out_reader.OutStage.TheVariants as stage
 use Rattle.syn_parse.specs.declared.out_reader.OutReader.{OutReader}
-use Rattle.syn_parse.specs.FormMachine as tests
+use Rattle.syn_parse.specs.inner.FormMachine as tests
 use Rattle.syn_parse.specs.Heights.{max_height}
 
 -- an output whose highest part has the height n; none where it would be too high
@@ -30,6 +30,9 @@ choice_of test a b = built (out_view.If test.form a.out b.out) (max test.height 
 
 abbrev pub given : TermSyntax → TallOut
 given t = record { out = out.Give t; height = 1 }
+
+abbrev pub stands : List Arm → OutStage → OutReader
+stands arms s = record { arms = arms; stage = s }
 
 -- an output is wanted
 abbrev pub wanted : List Arm → OutReader
@@ -43,10 +46,14 @@ testing arms r = record { arms = arms; stage = stage.Test r }
 abbrev pub here : List Arm → TallOut → OutReader
 here arms u = record { arms = arms; stage = stage.Here u }
 
+-- an output comes as the first arm of a choice with this test
+abbrev pub came_first : List Arm → Tall → TallOut → OutReader
+came_first arms test u = here (arm.Then test ∷ arms) u
+
 -- an output comes: it ends each choice on top that waits for its second arm
 abbrev pub came : List Arm → TallOut → Option OutReader
 came [] u = Some (here [] u)
-came (arm.Then test ∷ arms) u = Some (here (arm.Then test ∷ arms) u)
+came (arm.Then test ∷ arms) u = Some (came_first arms test u)
 came (arm.Else test a ∷ arms) u = option_and_then (came arms) (choice_of test a u)
 
 -- a mark where an output is wanted
@@ -92,7 +99,7 @@ abbrev pub went_on : List Arm → TallOut → Item → Option OutReader
 went_on arms u (item.Fixed m) = mark_after arms u m
 went_on arms u _ = None
 
-abbrev pub step_at : Stage → List Arm → Item → Option OutReader
+abbrev pub step_at : OutStage → List Arm → Item → Option OutReader
 step_at stage.Wanted arms i = begun arms i
 step_at (stage.Test r) arms i = tested arms r i
 step_at (stage.Here u) arms i = went_on arms u i
@@ -109,8 +116,13 @@ run (i ∷ is) r = option_and_then (run is) (step r i)
 abbrev pub start : OutReader
 start = wanted []
 
-abbrev pub ended_at : Stage → List Arm → Option OutSyntax
-ended_at (stage.Here u) [] = Some u.out
+-- the output u with no choice open
+abbrev pub whole_with : List Arm → TallOut → Option OutSyntax
+whole_with [] u = Some u.out
+whole_with (a ∷ arms) u = None
+
+abbrev pub ended_at : OutStage → List Arm → Option OutSyntax
+ended_at (stage.Here u) arms = whole_with arms u
 ended_at _ arms = None
 
 -- the output, where it is there and no choice is open

@@ -1,4 +1,4 @@
--- The machine that reads a formula from its items. It holds a frame for each open bracket, with a place for each level of
+-- Private: the machine that reads a formula from its items. It holds a frame for each open bracket, with a place for each level of
 -- precedence, and takes one item at a time without looking ahead. That it reads what the grammar says is proved of it.
 use Rattle.std.specs.Prelude.{ℕ, zero, suc, ◌+◌, max, nat_lt, Bool, true, false, if◌then◌else◌, List, [], ◌∷◌, ◌++◌, Option, None, Some}
 use Rattle.std.specs.Option.{option_and_then, option_map}
@@ -15,8 +15,8 @@ use Rattle.syn_form.specs.declared.syntax.FormSyntax.TheViews as view
 use Rattle.syn_parse.specs.declared.items.Item.{Item}
 use Rattle.syn_parse.specs.declared.items.Item.TheVariants as item
 use Rattle.syn_parse.specs.declared.form_frames.Tall.{Tall}
-use Rattle.syn_parse.specs.declared.form_frames.Parts.{Parts}
-use Rattle.syn_parse.specs.declared.form_frames.Bound.{Bound}
+use Rattle.syn_parse.specs.declared.form_frames.Members.{Members}
+use Rattle.syn_parse.specs.declared.form_frames.Prefix.{Prefix}
 use Rattle.syn_parse.specs.declared.form_frames.Frame.{Frame}
 use Rattle.syn_parse.specs.declared.form_reader.FormReader.{FormReader}
 use Rattle.syn_parse.specs.Heights.{max_height}
@@ -34,7 +34,7 @@ implies_of a b = built (view.Implies a.form b.form) (max a.height b.height)
 abbrev pub both_of : Tall → Tall → Option Tall
 both_of a b = built (view.BothWays a.form b.form) (max a.height b.height)
 
-abbrev pub quantified_of : Bound → Tall → Option Tall
+abbrev pub quantified_of : Prefix → Tall → Option Tall
 quantified_of b u = built (view.Quantified b.quantifier b.binders u.form) u.height
 
 -- the formula under so many `not`s
@@ -42,23 +42,23 @@ abbrev pub negated : ℕ → Tall → Option Tall
 negated zero u = Some u
 negated (suc n) u = option_and_then (negated n) (not_of u)
 
-abbrev pub no_parts : Parts
-no_parts = record { forms = []; height = 0 }
+abbrev pub no_members : Members
+no_members = record { forms = []; height = 0 }
 
-abbrev pub with_member : Parts → Tall → Parts
-with_member parts u = record { forms = parts.forms ++ u.form ∷ []; height = max parts.height u.height }
+abbrev pub with_member : Members → Tall → Members
+with_member members u = record { forms = members.forms ++ u.form ∷ []; height = max members.height u.height }
 
 abbrev pub chained : (List FormSyntax → FormSyntax) → List FormSyntax → ℕ → Tall → Option Tall
 chained node [] n u = Some u
 chained node (x ∷ xs) n u = built (node ((x ∷ xs) ++ u.form ∷ [])) (max n u.height)
 
 -- a chain of `and` with its last member; a formula alone is no chain
-abbrev pub chain_and : Parts → Tall → Option Tall
-chain_and parts u = chained view.And parts.forms parts.height u
+abbrev pub chain_and : Members → Tall → Option Tall
+chain_and ands u = chained view.And ands.forms ands.height u
 
 -- the same with `or`
-abbrev pub chain_or : Parts → Tall → Option Tall
-chain_or parts u = chained view.Or parts.forms parts.height u
+abbrev pub chain_or : Members → Tall → Option Tall
+chain_or ors u = chained view.Or ors.forms ors.height u
 
 -- a chain of `->`, nested to the right
 abbrev pub chain_imp : List Tall → Tall → Option Tall
@@ -70,23 +70,26 @@ sided None u = Some u
 sided (Some a) u = both_of a u
 
 -- the formula under the quantifiers, the first of them outermost
-abbrev pub under : List Bound → Tall → Option Tall
+abbrev pub under : List Prefix → Tall → Option Tall
 under [] u = Some u
 under (b ∷ bs) u = option_and_then (quantified_of b) (under bs u)
 
-abbrev pub or_done : Parts → Parts → Tall → Option Tall
+abbrev pub or_done : Members → Members → Tall → Option Tall
 or_done ands ors u = option_and_then (chain_or ors) (chain_and ands u)
 
-abbrev pub imp_done : Parts → Parts → List Tall → Tall → Option Tall
+abbrev pub imp_done : Members → Members → List Tall → Tall → Option Tall
 imp_done ands ors lefts u = option_and_then (chain_imp lefts) (or_done ands ors u)
+
+abbrev pub sides_done : Members → Members → List Tall → Option Tall → Tall → Option Tall
+sides_done ands ors lefts side u = option_and_then (sided side) (imp_done ands ors lefts u)
 
 -- the whole form of a frame, whose last operand is u
 abbrev pub form_done : Frame → Tall → Option Tall
-form_done f u = option_and_then (under f.bounds) (option_and_then (sided f.side) (imp_done f.ands f.ors f.lefts u))
+form_done f u = option_and_then (under f.prefixes) (sides_done f.ands f.ors f.lefts f.side u)
 
 -- a frame of which nothing was read
 abbrev pub fresh : Frame
-fresh = record { bounds = []; nots = 0; ands = no_parts; ors = no_parts; lefts = []; side = None }
+fresh = record { prefixes = []; nots = 0; ands = no_members; ors = no_members; lefts = []; side = None }
 
 -- an operand is wanted, or, at the start of a form, also a quantifier
 abbrev pub wants : Bool → Frame → List Frame → FormReader
@@ -108,7 +111,7 @@ leaf f = record { form = f; height = 1 }
 
 abbrev pub quantifier_next : Bool → Frame → List Frame → Quantifier → List BinderSyntax → Option FormReader
 quantifier_next false f out q binders = None
-quantifier_next true f out q binders = Some (wants true (record f { bounds = f.bounds ++ record { quantifier = q; binders = binders } ∷ [] }) out)
+quantifier_next true f out q binders = Some (wants true (record f { prefixes = f.prefixes ++ record { quantifier = q; binders = binders } ∷ [] }) out)
 
 abbrev pub not_next : Frame → List Frame → FormReader
 not_next f out = wants false (record f { nots = f.nots + 1 }) out
@@ -146,14 +149,14 @@ abbrev pub and_next : Frame → List Frame → Tall → FormReader
 and_next f out u = wants false (record f { nots = 0; ands = with_member f.ands u }) out
 
 abbrev pub or_next : Frame → List Frame → Tall → Option FormReader
-or_next f out u = option_map (λ v. wants false (record f { nots = 0; ands = no_parts; ors = with_member f.ors v }) out) (chain_and f.ands u)
+or_next f out u = option_map (λ v. wants false (record f { nots = 0; ands = no_members; ors = with_member f.ors v }) out) (chain_and f.ands u)
 
 abbrev pub arrow_next : Frame → List Frame → Tall → Option FormReader
-arrow_next f out u = option_map (λ v. wants false (record f { nots = 0; ands = no_parts; ors = no_parts; lefts = f.lefts ++ v ∷ [] }) out) (or_done f.ands f.ors u)
+arrow_next f out u = option_map (λ v. wants false (record f { nots = 0; ands = no_members; ors = no_members; lefts = f.lefts ++ v ∷ [] }) out) (or_done f.ands f.ors u)
 
 -- `<->` stands at most once in a form
 abbrev pub both_at : Option Tall → Frame → List Frame → Tall → Option FormReader
-both_at None f out u = option_map (λ v. wants false (record fresh { bounds = f.bounds; side = Some v }) out) (imp_done f.ands f.ors f.lefts u)
+both_at None f out u = option_map (λ v. wants false (record fresh { prefixes = f.prefixes; side = Some v }) out) (imp_done f.ands f.ors f.lefts u)
 both_at (Some left) f out u = None
 
 abbrev pub both_next : Frame → List Frame → Tall → Option FormReader
