@@ -197,7 +197,7 @@ module _ (scope : TextScope) where
 
   app_back : (p : Place) (f : SymId) (args : List TermTree) → All Back args → Back (view.App p f args)
   app_back p f args h s c =
-      let a : IsApplication scope.table f args = node-App (SortedNode scope.table) p f args s in
+      let a : IsApplication scope.table f args = (node-App (SortedNode scope.table) p f args s).0 in
       let can : CanReadSymbol scope f args = node-App (CanReadNode scope) p f args c in
       let hs = args_stand args h (parts-App (SortedNode scope.table) p f args s) (parts-App (CanReadNode scope) p f args c) in
       let k = symbol_stands f args a can hs in

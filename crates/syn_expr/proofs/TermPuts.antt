@@ -162,7 +162,7 @@ module _ (scope : TextScope) where
   at_app : (p : Place) (f : SymId) (args : List TermTree) → All GoesTerm args → GoesTerm (view.App p f args)
   at_app p f args h sorted can =
       let c = node-App (CanReadNode scope) p f args can in
-      let a = node-App (SortedNode scope.table) p f args sorted in
+      let a = (node-App (SortedNode scope.table) p f args sorted).0 in
       let all = all_go args h (parts-App (SortedNode scope.table) p f args sorted) (parts-App (CanReadNode scope) p f args can) in
       let ps = map (printing_of scope) args in
       let ws = map (writing_of scope) args in

@@ -4,7 +4,7 @@ use Rattle.std.specs.Prelude.{◌≡◌, ◌≢◌, ℕ, ◌≤◌, List, [], �
 use Rattle.std.specs.List.{flat_map, range_with_len}
 use Rattle.syn_term.specs.declared.sorts.Var.{Var}
 use Rattle.syn_term.specs.Names.{IsName}
-use Rattle.syn_term.specs.Symbols.{SymbolTable, IsTaken}
+use Rattle.syn_term.specs.Symbols.{SymbolTable, IsSort, IsTaken}
 use Rattle.syn_term.specs.Terms.{TermTree, sort_of}
 use Rattle.syn_form.specs.declared.trees.Binder.{Binder}
 use Rattle.syn_form.specs.declared.trees.QForm.{QForm, fold-QForm, every-QForm}
@@ -59,10 +59,11 @@ IsFormedQ table = every-QForm (PlainQFormNode table)
 abbrev pub IsNumbered : QFormTree → Type 0
 IsNumbered f = map (λ b. b.var.number) (binders_of f) ≡ range_with_len 1 (length (binders_of f))
 
--- a binder's name is a name that no symbol and no sort has
-pub record HasFreeName (table : SymbolTable) (b : Binder) : Type 0 where
+-- what a quantifier may bind: its name is a name that no symbol and no sort has, and its variable has a sort of the table
+pub record MayBind (table : SymbolTable) (b : Binder) : Type 0 where
   pub is_name : IsName b.name
   pub free : IsTaken table b.name → ⊥
+  pub sort : IsSort table b.var.sort
 
 -- no quantifier of the formula binds this name
 abbrev pub IsUnbound : List ℕ → QFormTree → Type 0
@@ -77,11 +78,11 @@ UnboundBelow _ = Unit {0}
 abbrev pub BindsOnce : QFormTree → Type 0
 BindsOnce = every-QForm UnboundBelow
 
--- it is formed, no variable number has two sorts, and its binders are numbered in order and have free names, none of which
--- is bound again within its scope
+-- it is formed, no variable number has two sorts, and its binders are numbered in order and may be bound, and no name is
+-- bound again within its scope
 pub record IsPlainQForm (table : SymbolTable) (f : QFormTree) : Type 0 where
   pub formed : IsFormedQ table f
   pub sorts : HasOneSortEach (qform_vars f)
   pub numbered : IsNumbered f
-  pub names : All (HasFreeName table) (binders_of f)
+  pub binders : All (MayBind table) (binders_of f)
   pub once : BindsOnce f

@@ -1,9 +1,10 @@
-// Formulas whose binders have free names, and none of them twice within one another.
+// Formulas whose binders may be bound, and none of them twice within one another.
 ghost use Rattle.std.specs.Prelude.{◌≡◌, ◌≢◌, ◌↔◌, All, Any, Contains, IsTrue};
 ghost use Rattle.syn_term.specs.Names.{IsName};
-ghost use Rattle.syn_term.specs.Symbols.{names_of};
-ghost use Rattle.syn_form.specs.PlainQuantified.{BindsOnce, HasFreeName, IsUnbound, binders_of};
+ghost use Rattle.syn_term.specs.Symbols.{IsTaken, names_of};
+ghost use Rattle.syn_form.specs.PlainQuantified.{BindsOnce, IsUnbound, MayBind, binders_of};
 
+use crate::sorts::is_sort;
 use crate::trees::{Binder, QForm};
 use syn_term::{Symbols, is_name};
 
@@ -22,39 +23,47 @@ fn names_no_sort(syms: &Symbols, name: &str) -> bool
     syms.find_sort(name).is_none()
 }
 
-/// Whether the binder's name is a name that no symbol and no sort has.
-fn has_free_name(syms: &Symbols, b: &Binder) -> bool
-    ensures { IsTrue result ↔ HasFreeName syms.now b.now }
+/// Whether the text is a name that no symbol and no sort has.
+fn is_free_name(syms: &Symbols, name: &str) -> bool
+    ensures { IsTrue result ↔ IsName name.now × (IsTaken syms.now name.now → ⊥) }
 {
-    if !is_name(b.name.as_str()) {
+    if !is_name(name) {
         return false;
     }
-    names_no_symbol(syms, b.name.as_str()) && names_no_sort(syms, b.name.as_str())
+    names_no_symbol(syms, name) && names_no_sort(syms, name)
 }
 
-/// Whether each binder's name is a name that no symbol and no sort has.
-#[cycle(names)]
-pub(crate) fn has_free_names(syms: &Symbols, f: &QForm) -> bool
-    ensures { IsTrue result ↔ All (HasFreeName syms.now) (binders_of f.now) }
+/// Whether the binder's name is a name that no symbol and no sort has, and its variable has a sort of
+/// the table.
+fn may_bind(syms: &Symbols, b: &Binder) -> bool
+    ensures { IsTrue result ↔ MayBind syms.now b.now }
+{
+    is_free_name(syms, b.name.as_str()) && is_sort(syms, b.var.sort)
+}
+
+/// Whether each binder of the formula may be bound.
+#[cycle(binders)]
+pub(crate) fn binders_may_bind(syms: &Symbols, f: &QForm) -> bool
+    ensures { IsTrue result ↔ All (MayBind syms.now) (binders_of f.now) }
 {
     match f {
         QForm::True | QForm::False | QForm::Atom(_, _) | QForm::Equal(_, _) => true,
-        QForm::Not(a) => has_free_names(syms, a.get()),
-        QForm::And(all) | QForm::Or(all) => have_free_names(syms, all.get().as_slice()),
-        QForm::Implies(a, b) => has_free_names(syms, a.get()) && has_free_names(syms, b.get()),
+        QForm::Not(a) => binders_may_bind(syms, a.get()),
+        QForm::And(all) | QForm::Or(all) => all_may_bind(syms, all.get().as_slice()),
+        QForm::Implies(a, b) => binders_may_bind(syms, a.get()) && binders_may_bind(syms, b.get()),
         QForm::All(b, a) | QForm::Exists(b, a) => {
-            has_free_name(syms, b) && has_free_names(syms, a.get())
+            may_bind(syms, b) && binders_may_bind(syms, a.get())
         }
     }
 }
 
 /// The same for the binders of the formulas.
-#[cycle(names)]
-fn have_free_names(syms: &Symbols, all: &[QForm]) -> bool
-    ensures { IsTrue result ↔ All (λ f. All (HasFreeName syms.now) (binders_of f)) all.now }
+#[cycle(binders)]
+fn all_may_bind(syms: &Symbols, all: &[QForm]) -> bool
+    ensures { IsTrue result ↔ All (λ f. All (MayBind syms.now) (binders_of f)) all.now }
 {
     for f in all {
-        if !has_free_names(syms, f) {
+        if !binders_may_bind(syms, f) {
             return false;
         }
     }

@@ -1,9 +1,9 @@
 // Whether a tree is plain: it is formed, and no variable number has two sorts in it.
 ghost use Rattle.std.specs.Prelude.{◌↔◌, All, IfOk, IsTrue};
 ghost use Rattle.syn_form.specs.Plain.{IsPlainForm, IsPlainOut};
-ghost use Rattle.syn_form.specs.PlainQuantified.{BindsOnce, HasFreeName, IsNumbered, IsPlainQForm, binders_of};
+ghost use Rattle.syn_form.specs.PlainQuantified.{BindsOnce, IsNumbered, IsPlainQForm, MayBind, binders_of};
 
-use crate::binders::{binds_once, has_free_names};
+use crate::binders::{binders_may_bind, binds_once};
 use crate::formed::{is_formed_form, is_formed_out};
 use crate::numbers::is_numbered;
 use crate::quantified::is_formed_qform;
@@ -32,12 +32,12 @@ pub fn is_plain_out(alloc: Global, syms: &Symbols, o: &Out) -> Result<bool, NoMe
     out_has_one_sort_each(alloc, o)
 }
 
-/// Whether the binders are numbered in order and have free names, none of which is bound again
-/// within its scope.
+/// Whether the binders are numbered in order and may be bound, and no name is bound again within its
+/// scope.
 fn binds_in_order(syms: &Symbols, f: &QForm) -> bool
-    ensures { IsTrue result ↔ IsNumbered f.now × All (HasFreeName syms.now) (binders_of f.now) × BindsOnce f.now }
+    ensures { IsTrue result ↔ IsNumbered f.now × All (MayBind syms.now) (binders_of f.now) × BindsOnce f.now }
 {
-    is_numbered(f) && has_free_names(syms, f) && binds_once(f)
+    is_numbered(f) && binders_may_bind(syms, f) && binds_once(f)
 }
 
 /// Whether the formula, which may have quantifiers, is plain. The one error is want of memory.

@@ -1,9 +1,10 @@
 // The sorts of terms, and which symbols stand before which terms in atoms.
 ghost use Rattle.std.specs.Prelude.{◌≡◌, ◌↔◌, ◌⊎◌, map, IsTrue, Some};
+ghost use Rattle.syn_term.specs.Symbols.{IsSort};
 ghost use Rattle.syn_term.specs.Terms.{IsApplication, sort_of};
 ghost use Rattle.syn_term.specs.declared.sorts.Kind.TheVariants as kinds;
 ghost use Rattle.syn_form.specs.Plain as plain;
-ghost use Rattle.syn_form.specs.Plain.{IsAtom};
+ghost use Rattle.syn_form.specs.Plain.{IsAtom, IsKnownSort, result_of};
 ghost use Rattle.syn_form.specs.Sorts as sorts;
 ghost use Rattle.syn_form.specs.Heads.{head_sort};
 
@@ -83,13 +84,47 @@ pub fn have_sorts(syms: &Symbols, terms: &[Term], sorts: &[Sort]) -> bool
 }
 
 /// Whether the symbol may be applied to the terms.
-pub(crate) fn is_application(syms: &Symbols, f: SymId, args: &[Term]) -> bool
+fn is_application(syms: &Symbols, f: SymId, args: &[Term]) -> bool
     ensures { IsTrue result ↔ IsApplication syms.now f args.now }
 {
     match syms.get(f) {
         None => false,
         Some(sym) => !is_relation(sym.kind) && have_sorts(syms, args, sym.args.as_slice()),
     }
+}
+
+/// The sort of the symbol's result, None where the symbol isn't in the table or has no result.
+fn result_sort(syms: &Symbols, f: SymId) -> Option<Sort>
+    ensures { result ≡ result_of syms.now f }
+{
+    match syms.get(f) {
+        None => None,
+        Some(sym) => sym.result,
+    }
+}
+
+/// Whether the sort is one of the table's.
+pub(crate) fn is_sort(syms: &Symbols, sort: Sort) -> bool
+    ensures { IsTrue result ↔ IsSort syms.now sort }
+{
+    syms.sort_name(sort).is_some()
+}
+
+/// Whether a sort is there, and is one of the table's.
+fn is_known_sort(syms: &Symbols, sort: Option<Sort>) -> bool
+    ensures { IsTrue result ↔ IsKnownSort syms.now sort }
+{
+    match sort {
+        None => false,
+        Some(sort) => is_sort(syms, sort),
+    }
+}
+
+/// Whether the symbol may be applied to the terms, and its result is there and has a sort of the table.
+pub(crate) fn makes_sorted(syms: &Symbols, f: SymId, args: &[Term]) -> bool
+    ensures { IsTrue result ↔ IsApplication syms.now f args.now × IsKnownSort syms.now (result_of syms.now f) }
+{
+    is_application(syms, f, args) && is_known_sort(syms, result_sort(syms, f))
 }
 
 /// Whether the symbol makes an atom of the terms.

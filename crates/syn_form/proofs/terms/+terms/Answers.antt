@@ -1,6 +1,6 @@
 use Rattle.std.proofs.Common.{sym, ◌∙◌}
 use Rattle.syn_form.specs.Plain.{IsSorted}
-use Rattle.syn_form.proofs.Deciding.{all_more, all_whole, fails, holds, not_all, unless_first, when_first}
+use Rattle.syn_form.proofs.Deciding.{all_more, all_whole, fails, holds, not_all, same_fact, unless_first, when_first}
 use Rattle.syn_form.proofs.SortedTerms.{application_sorted, variable_sorted}
 use Rattle.syn_form.proofs.terms.+terms.Goals as goal
 
@@ -14,10 +14,10 @@ pub are_sorted-returns : goal.are_sorted-returns
 are_sorted-returns t c = holds (all_whole (IsSorted c.args.syms.now) _ _ c.loop-t-test.false c.loop-t.invariant)
 
 pub is_sorted-returns-in-Var : goal.is_sorted-returns-in-Var
-is_sorted-returns-in-Var t c = holds (variable_sorted _ _ _ _ (sym c.get.ensures ∙ c.in-Var.is))
+is_sorted-returns-in-Var t c = same_fact (variable_sorted _ _ _ _ (sym c.get.ensures ∙ c.in-Var.is)) c.is_sort.ensures
 
-pub is_sorted-returns-then-is_application : goal.is_sorted-returns-then-is_application
-is_sorted-returns-then-is_application t c = when_first (application_sorted _ _ _ _ _ _ _ (sym c.get.ensures ∙ c.in-App.is) c.as_slice.ensures c.as_slice-then-is_application.ensures) c.is_application.ensures c.if-is_application.true c.are_sorted.ensures
+pub is_sorted-returns-then-makes_sorted : goal.is_sorted-returns-then-makes_sorted
+is_sorted-returns-then-makes_sorted t c = when_first (application_sorted _ _ _ _ _ _ _ (sym c.get.ensures ∙ c.in-App.is) c.as_slice.ensures c.as_slice-then-makes_sorted.ensures) c.makes_sorted.ensures c.if-makes_sorted.true c.are_sorted.ensures
 
-pub is_sorted-returns-else-is_application : goal.is_sorted-returns-else-is_application
-is_sorted-returns-else-is_application t c = unless_first (application_sorted _ _ _ _ _ _ _ (sym c.get.ensures ∙ c.in-App.is) c.as_slice.ensures c.as_slice.ensures) c.is_application.ensures c.if-is_application.false
+pub is_sorted-returns-else-makes_sorted : goal.is_sorted-returns-else-makes_sorted
+is_sorted-returns-else-makes_sorted t c = unless_first (application_sorted _ _ _ _ _ _ _ (sym c.get.ensures ∙ c.in-App.is) c.as_slice.ensures c.as_slice.ensures) c.makes_sorted.ensures c.if-makes_sorted.false
