@@ -19,3 +19,5 @@ pub mod Joining
 pub mod Sorted
 pub mod Heads
 pub mod Numbers
+pub mod Replacing
+pub mod ReplacingLaws

@@ -12,6 +12,7 @@ mod numbers;
 mod output;
 mod plain;
 mod quantified;
+mod replacing;
 mod signs;
 mod simplifying;
 #[cfg(test)]
@@ -27,6 +28,7 @@ mod vars;
 pub use formed::{is_formed_form, is_formed_out};
 pub use plain::{is_plain_form, is_plain_out, is_plain_qform};
 pub use quantified::is_formed_qform;
+pub use replacing::replace_all;
 pub use signs::polarity;
 pub use simplifying::{simplify, simplify_out};
 pub use sorts::{are_of_one_sort, given_sort, have_sorts, is_atom, sort_in};
