@@ -1,4 +1,5 @@
 pub mod Trees
+pub mod Positions
 pub mod Same
 pub mod Banks
 pub mod Lists
@@ -29,3 +30,4 @@ pub mod KeyLemmas
 pub mod SortLemmas
 pub mod TableLaws
 pub mod Indexed
+pub mod Copies

@@ -3,7 +3,7 @@ use Rattle.std.proofs.lemmas.List.{get_or_default}
 use Rattle.syn_term.specs.declared.sorts.Sort.TheVariants.{Nat}
 use Rattle.syn_term.specs.Terms.{sort_of}
 use Rattle.syn_term.proofs.Lists.{items_differ}
-use Rattle.syn_term.proofs.bank.have_sorts.Goals as goal
+use Rattle.syn_term.proofs.term.have_sorts.Goals as goal
 
 pub returns-then-not-has_sort : goal.returns-then-not-has_sort
 returns-then-not-has_sort c =
