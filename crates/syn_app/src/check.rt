@@ -56,12 +56,7 @@ fn add(syms: &mut Symbols, sym: Sym) -> Result<(), NoMemory>
 }
 
 /// Adds the program symbol and the input to `0` and `s`.
-fn add_names(
-    alloc: Global,
-    syms: &mut Symbols,
-    program: &str,
-    input: &str,
-) -> Result<(), NoMemory>
+fn add_names(alloc: Global, syms: &mut Symbols, program: &str, input: &str) -> Result<(), NoMemory>
     requires first { syms.old ≡ first_symbols }
     requires program { IsName program.now }
     requires input { IsName input.now }

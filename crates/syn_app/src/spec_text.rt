@@ -5,16 +5,17 @@ ghost use Rattle.std.specs.Prelude.{◌≡◌, ◌≢◌, ◌↔◌, ◌<◌, �
 ghost use Rattle.syn_term.specs.Names.{IsName, is_name_byte};
 ghost use Rattle.syn_app.specs.declared.readings.TermReading.{TermReading};
 ghost use Rattle.syn_app.specs.Limits.{FitsForm};
-ghost use Rattle.syn_app.specs.Lines.{IsCut};
+ghost use Rattle.syn_lex.specs.TextLines.{IsCut};
 ghost use Rattle.syn_app.specs.Readers.{IsSpecReading, Refuses};
 ghost use Rattle.syn_app.specs.SpecText.{AreProgramNames, ExtendsSpec, IsCondition, ProgramNames, WholeSpec, ensures_line, ensures_of, program_line, spec_line};
 ghost use Rattle.syn_app.specs.Terms.{IsClosed};
 
-use crate::lines::{Cut, FileError, cut_lines, part_before, same, strip};
+use crate::lines::{part_before, same, strip};
 use crate::numbers::name_in;
 use crate::readings::{Base, TermReading};
 use crate::terms::{MOST_DEPTH, MOST_NODES, size_of, term_in};
 use std::alloc::Global;
+use syn_lex::{Cut, FileError, cut_lines};
 use syn_term::NoMemory;
 
 /// A specification, as its text is read: the names are parts of the text.

@@ -13,7 +13,6 @@ ghost use Rattle.syn_app.specs.Stages.{DerivationEnds, DerivationFails, EntriesF
 
 use crate::check::{check, symbols_of};
 use crate::derivation_text::read_derivation;
-use crate::lines::FileError;
 use crate::printing::print_program;
 use crate::readings::RowReading;
 use crate::replay::CheckError;
@@ -21,6 +20,7 @@ use crate::spec_text::{SpecReading, read_spec};
 use crate::status::{Status, Which};
 use crate::theory_text::read_theory;
 use std::alloc::Global;
+use syn_lex::FileError;
 use syn_outside::{Cabinet, ReadError, Sink, WriteError, put_all, read_all};
 use syn_term::{NoMemory, Symbols, Term};
 

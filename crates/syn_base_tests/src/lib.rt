@@ -3,6 +3,9 @@
 //! answer comes.
 #![tactic(auto)]
 
-
+#[cfg(test)]
+mod lines;
 #[cfg(test)]
 mod outside;
+#[cfg(test)]
+mod tokens;

@@ -1,7 +1,7 @@
 use Rattle.std.proofs.Common.{◌≡◌, ◌++◌, All, map, length}
 use Rattle.std.specs.List.{flat_map}
-use Rattle.syn_app.specs.Lines.{Without, with_feed}
-use Rattle.syn_app.proofs.lines.cut_lines.Given as goal
+use Rattle.syn_lex.specs.TextLines.{Without, with_feed}
+use Rattle.syn_lex.proofs.lines.cut_at_feeds.Given as goal
 
 abbrev pub invariant-loop-line : goal.invariant-loop-line
 invariant-loop-line l = record {
