@@ -28,14 +28,14 @@ use Rattle.syn_form.proofs.ReplacingCases.{by_replacing}
 -- the members that are put in place of others, where each is a kind of its own
 module _ (r : FormTree → FormTree) where
   members-truth : (a : Assignment) (all : List FormTree) → All (λ f. truth_value a (r f) ≡ truth_value a f) all → map (truth_value a) (map r all) ≡ map (truth_value a) all
-  members-truth_value a [] h = refl
-  members-truth_value a (f ∷ fs) h =
+  members-truth a [] h = refl
+  members-truth a (f ∷ fs) h =
       let e : truth_value a (r f) ≡ truth_value a f = All-head (λ (g : FormTree). truth_value a (r g) ≡ truth_value a g) f fs h in
-      let k : map (truth_value a) (map r fs) ≡ map (truth_value a) fs = members-truth_value a fs (All-tail (λ (g : FormTree). truth_value a (r g) ≡ truth_value a g) f fs h) in cc
+      let k : map (truth_value a) (map r fs) ≡ map (truth_value a) fs = members-truth a fs (All-tail (λ (g : FormTree). truth_value a (r g) ≡ truth_value a g) f fs h) in cc
 
   pub chain-truth : (a : Assignment) (j : Junction) (all : List FormTree) → All (λ f. truth_value a (r f) ≡ truth_value a f) all → truth_value a (chain j (map r all)) ≡ truth_value a (chain j all)
-  chain-truth_value a conjunction all h = fold-And (truth_value_step a) (map r all) ∙ (ap (list_all (λ x. x)) (members-truth_value a all h) ∙ sym (fold-And (truth_value_step a) all))
-  chain-truth_value a disjunction all h = fold-Or (truth_value_step a) (map r all) ∙ (ap (list_any (λ x. x)) (members-truth_value a all h) ∙ sym (fold-Or (truth_value_step a) all))
+  chain-truth a conjunction all h = fold-And (truth_value_step a) (map r all) ∙ (ap (list_all (λ x. x)) (members-truth a all h) ∙ sym (fold-And (truth_value_step a) all))
+  chain-truth a disjunction all h = fold-Or (truth_value_step a) (map r all) ∙ (ap (list_any (λ x. x)) (members-truth a all h) ∙ sym (fold-Or (truth_value_step a) all))
 
   members-formed : (table : SymbolTable) (all : List FormTree) → All (λ f. IsFormed table f → IsFormed table (r f)) all → All (IsFormed table) all → All (IsFormed table) (map r all)
   members-formed table [] h k = All-nil (IsFormed table)
@@ -71,7 +71,7 @@ module _ (part : FormTree) (by : Bool) where
   truth-constant a false = fold-False (truth_value_step a)
 
   pub replaced-truth : (a : Assignment) → truth_value a part ≡ by → (f : FormTree) → truth_value a (replaced f) ≡ truth_value a f
-  replaced-truth_value a value = by_replacing part by (λ f g. truth_value a g ≡ truth_value a f) record {
+  replaced-truth a value = by_replacing part by (λ f g. truth_value a g ≡ truth_value a f) record {
     at_hit = λ f e. truth-constant a by ∙ (sym value ∙ sym (truth-same a f part e));
     at_true = refl;
     at_false = refl;
@@ -124,7 +124,7 @@ module _ (part : FormTree) (by : Bool) where
   pub replaces_all : (f : FormTree) → ReplacesAll part by f (replaced f)
   replaces_all f = record {
     parts = replaced_parts part by;
-    truth = λ a value. replaced-truth_value a value f;
+    truth = λ a value. replaced-truth a value f;
     formed = λ table h. replaced-formed table f h;
     plain = λ table h. record {
       formed = replaced-formed table f h.formed;
