@@ -9,12 +9,12 @@ use Rattle.syn_term.specs.declared.term.Node.{fold-Node}
 use Rattle.syn_term.specs.Terms.{TermTree, application, nowhere, bare, depth_of}
 use Rattle.syn_term.specs.Symbols.{SymbolTable, symbol_at}
 use Rattle.syn_term.proofs.Trees.{fold-App}
-use Rattle.syn_model.specs.declared.trees.Form.TheVariants as form
-use Rattle.syn_model.specs.declared.trees.Out.TheVariants as out
-use Rattle.syn_model.specs.Trees.{FormTree, OutTree, TheoryTree, SpecTree, ProgramTree, program_symbols, spec_symbols}
-use Rattle.syn_model.specs.Primitive.{IsPrimitiveProgram, IsPrimitiveTerm, primitive_step, primitive_symbol}
-use Rattle.syn_model.specs.Correctness.{IsCorrect}
-use Rattle.syn_model.specs.ProgramText.{printed_program}
+use Rattle.syn_app.specs.declared.trees.Form.TheVariants as form
+use Rattle.syn_app.specs.declared.trees.Out.TheVariants as out
+use Rattle.syn_app.specs.Trees.{FormTree, OutTree, TheoryTree, SpecTree, ProgramTree, program_symbols, spec_symbols}
+use Rattle.syn_app.specs.Primitive.{IsPrimitiveProgram, IsPrimitiveTerm, primitive_step, primitive_symbol}
+use Rattle.syn_app.specs.Correctness.{IsCorrect}
+use Rattle.syn_app.specs.ProgramText.{printed_program}
 use Rattle.syn_app.specs.declared.readings.Base.{Base}
 use Rattle.syn_app.specs.declared.readings.Base.TheVariants as base
 use Rattle.syn_app.specs.declared.readings.Row.{Row}

@@ -10,12 +10,12 @@ use Rattle.syn_term.specs.declared.sorts.Kind.TheVariants as kind
 use Rattle.syn_term.specs.Symbols.{SymbolTable, symbol_at, zero_symbol, succ_symbol}
 use Rattle.syn_term.specs.Terms.{TermTree, application, nowhere}
 use Rattle.syn_term.proofs.Trees.{fold-App, fold-Var}
-use Rattle.syn_model.specs.declared.trees.Value.{Value}
-use Rattle.syn_model.specs.declared.trees.Value.TheVariants.{Num}
-use Rattle.syn_model.specs.declared.trees.Out.TheVariants as out
-use Rattle.syn_model.specs.Trees.{TheoryTree, SpecTree, ProgramTree, input_symbol, program_symbols, spec_symbols}
-use Rattle.syn_model.specs.Evaluation.{Answer, Call, Environment, term_by, term_step, together, after, applied, call_at, inputs_read, program_meaning}
-use Rattle.syn_model.specs.Correctness.{IsCorrect, EndsWell, MeetsEnsures, with_output, spec_meaning}
+use Rattle.syn_app.specs.declared.trees.Value.{Value}
+use Rattle.syn_app.specs.declared.trees.Value.TheVariants.{Num}
+use Rattle.syn_app.specs.declared.trees.Out.TheVariants as out
+use Rattle.syn_app.specs.Trees.{TheoryTree, SpecTree, ProgramTree, input_symbol, program_symbols, spec_symbols}
+use Rattle.syn_app.specs.Evaluation.{Answer, Call, Environment, term_by, term_step, together, after, applied, call_at, inputs_read, program_meaning}
+use Rattle.syn_app.specs.Correctness.{IsCorrect, EndsWell, MeetsEnsures, with_output, spec_meaning}
 use Rattle.syn_app.specs.declared.readings.Base.{Base}
 use Rattle.syn_app.specs.declared.readings.Base.TheVariants as base
 use Rattle.syn_app.specs.declared.readings.TermReading.{TermReading}

@@ -1,7 +1,7 @@
 -- A text stands for one program at most: its names end at the bracket and at the colon, and a term has one reading.
 use Rattle.std.proofs.Common.{◌≡◌, ℕ, ◌++◌, List, [], ◌∷◌, codes, refl, sym, ◌∙◌, ap, arith, append_assoc}
 use Rattle.std.proofs.lemmas.List.{append_cancel_left, append_cancel_right}
-use Rattle.syn_model.specs.Trees.{ProgramTree}
+use Rattle.syn_app.specs.Trees.{ProgramTree}
 use Rattle.syn_app.specs.declared.readings.TermReading.{TermReading}
 use Rattle.syn_app.specs.ProgramTexts.{IsProgramText, program_lines, program_over}
 use Rattle.syn_app.specs.Terms.{term_text}

@@ -7,9 +7,9 @@ use Rattle.syn_term.specs.declared.sorts.Sort.TheVariants as sort
 use Rattle.syn_term.specs.Names.{IsName}
 use Rattle.syn_term.specs.Symbols.{SymbolTable, symbol_at, succ_symbol, zero_symbol}
 use Rattle.syn_term.specs.Terms.{TermTree, application, bare, nodes, nowhere}
-use Rattle.syn_model.specs.declared.trees.Out.TheVariants as out
-use Rattle.syn_model.specs.Trees.{TheoryTree, ProgramTree}
-use Rattle.syn_model.specs.ProgramText.{Printed, applied_text, number_text, printed_program, printed_term, successor_text, symbol_printed}
+use Rattle.syn_app.specs.declared.trees.Out.TheVariants as out
+use Rattle.syn_app.specs.Trees.{TheoryTree, ProgramTree}
+use Rattle.syn_app.specs.ProgramText.{Printed, applied_text, number_text, printed_program, printed_term, successor_text, symbol_printed}
 use Rattle.syn_app.specs.declared.readings.Base.{Base}
 use Rattle.syn_app.specs.declared.readings.Base.TheVariants as base
 use Rattle.syn_app.specs.declared.readings.TermReading.{TermReading}

@@ -5,9 +5,9 @@ use borrow.Author.Count.{below_more}
 use Rattle.syn_term.specs.Terms.{TermTree}
 use Rattle.syn_term.specs.Same.{same_tree}
 use Rattle.syn_term.specs.Bank.{Kept, Belongs, Agree, Agree-belongs}
-use Rattle.syn_model.specs.declared.trees.Form.TheVariants as form
-use Rattle.syn_model.specs.declared.trees.Out.TheVariants as out
-use Rattle.syn_model.specs.Trees.{FormTree, OutTree}
+use Rattle.syn_app.specs.declared.trees.Form.TheVariants as form
+use Rattle.syn_app.specs.declared.trees.Out.TheVariants as out
+use Rattle.syn_app.specs.Trees.{FormTree, OutTree}
 use Rattle.syn_app.specs.declared.readings.Row.{Row}
 use Rattle.syn_app.specs.declared.readings.RowReading.{RowReading}
 use Rattle.syn_app.specs.declared.readings.Entry.{Entry}

@@ -8,9 +8,9 @@ use Rattle.syn_term.specs.Terms.{TermTree, variable_tree, nowhere, bare, bare_st
 use Rattle.syn_term.specs.Same.{same_tree}
 use Rattle.syn_term.proofs.Same.{same_tree-to, same_tree-from}
 use Rattle.syn_term.proofs.Trees.{fold-Var, fold-bare}
-use Rattle.syn_model.specs.declared.trees.Form.TheVariants as form
-use Rattle.syn_model.specs.declared.trees.Out.TheVariants as out
-use Rattle.syn_model.specs.Trees.{FormTree, SpecTree}
+use Rattle.syn_app.specs.declared.trees.Form.TheVariants as form
+use Rattle.syn_app.specs.declared.trees.Out.TheVariants as out
+use Rattle.syn_app.specs.Trees.{FormTree, SpecTree}
 use Rattle.syn_app.specs.declared.readings.Row.{Row}
 use Rattle.syn_app.specs.declared.readings.TermReading.{TermReading}
 use Rattle.syn_app.specs.declared.readings.Step.{Step}

@@ -5,13 +5,13 @@ use Rattle.std.proofs.lemmas.Bool.{cases_lt}
 use Rattle.syn_outside.specs.Files.{File}
 use Rattle.syn_outside.specs.Faults.{HasCause, Rose}
 use Rattle.syn_term.specs.Names.{IsName}
-use Rattle.syn_model.specs.Trees.{Declared, TheoryTree, SpecTree}
+use Rattle.syn_app.specs.Trees.{Declared, TheoryTree, SpecTree}
 use Rattle.syn_app.specs.declared.readings.Entry.{Entry}
 use Rattle.syn_app.specs.declared.status.Status.{Status}
 use Rattle.syn_app.specs.declared.status.Status.TheVariants as status
 use Rattle.syn_app.specs.declared.status.Which.{Which}
 use Rattle.syn_app.specs.declared.status.Which.TheVariants as which
-use Rattle.syn_app.specs.Lines.{IsFirstBad}
+use Rattle.syn_lex.specs.TextLines.{IsFirstBad}
 use Rattle.syn_app.specs.SpecText.{HasInput, IsSpecText, nat_declared}
 use Rattle.syn_app.specs.TheoryText.{ExtendsTheory, WholeTheory}
 use Rattle.syn_app.specs.SpecText.{ExtendsSpec, WholeSpec}

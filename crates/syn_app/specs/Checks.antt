@@ -1,11 +1,11 @@
 -- What the check of a derivation answers.
 use Rattle.std.specs.Prelude.{◌≡◌, List, [], ◌∷◌, ◌++◌, Some}
 use Rattle.syn_term.specs.Terms.{TermTree}
-use Rattle.syn_model.specs.Trees.{TheoryTree, SpecTree, ProgramTree}
-use Rattle.syn_model.specs.Correctness.{IsCorrect}
-use Rattle.syn_model.specs.Primitive.{IsPrimitiveProgram}
-use Rattle.syn_model.specs.ProgramText.{printed_program}
-use Rattle.syn_model.specs.Truth.{AxiomsHold}
+use Rattle.syn_app.specs.Trees.{TheoryTree, SpecTree, ProgramTree}
+use Rattle.syn_app.specs.Correctness.{IsCorrect}
+use Rattle.syn_app.specs.Primitive.{IsPrimitiveProgram}
+use Rattle.syn_app.specs.ProgramText.{printed_program}
+use Rattle.syn_app.specs.Truth.{AxiomsHold}
 use Rattle.syn_app.specs.declared.readings.Row.{Row}
 use Rattle.syn_app.specs.declared.readings.Entry.{Entry}
 use Rattle.syn_app.specs.declared.replay.CheckError.{CheckError}

@@ -1,9 +1,9 @@
 -- The text of a derivation: `derivation 1`, then lines `N RULE: goal FORM | TERM`, N counting from 1. RULE is `goal` or
 -- `reflex K -`, FORM is `true` or `TERM = TERM`.
 use Rattle.std.specs.Prelude.{◌≡◌, ℕ, ◌+◌, ◌<◌, ◌^◌, List, [], ◌∷◌, ◌++◌, codes, decimal, length, map}
-use Rattle.syn_model.specs.declared.trees.Form.TheVariants as form
-use Rattle.syn_model.specs.declared.trees.Out.TheVariants as out
-use Rattle.syn_model.specs.Trees.{FormTree}
+use Rattle.syn_app.specs.declared.trees.Form.TheVariants as form
+use Rattle.syn_app.specs.declared.trees.Out.TheVariants as out
+use Rattle.syn_app.specs.Trees.{FormTree}
 use Rattle.syn_app.specs.declared.readings.FormReading.{FormReading}
 use Rattle.syn_app.specs.declared.readings.FormReading.TheVariants as reading
 use Rattle.syn_app.specs.declared.readings.Step.{Step}
@@ -11,7 +11,8 @@ use Rattle.syn_app.specs.declared.readings.Step.TheVariants as step
 use Rattle.syn_app.specs.declared.readings.RowReading.{RowReading}
 use Rattle.syn_app.specs.declared.readings.Row.{Row}
 use Rattle.syn_app.specs.declared.readings.Entry.{Entry}
-use Rattle.syn_app.specs.Lines.{in_words, IsCut}
+use Rattle.syn_app.specs.Lines.{in_words}
+use Rattle.syn_lex.specs.TextLines.{IsCut}
 use Rattle.syn_app.specs.Limits.{FitsForm, FitsTerm, FitsRow}
 use Rattle.syn_app.specs.Terms.{term_text, term_tree, IsBase}
 

@@ -1,3 +1,10 @@
+pub mod Values
+pub mod Trees
+pub mod Evaluation
+pub mod Truth
+pub mod Correctness
+pub mod ProgramText
+pub mod Primitive
 pub mod Lines
 pub mod Limits
 pub mod Terms

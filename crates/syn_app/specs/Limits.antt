@@ -2,9 +2,9 @@
 -- and output count together; the instances of a step have at most 65,536 nodes and are at most 2,400 deep.
 use Rattle.std.specs.Prelude.{ℕ, ◌+◌, ◌≤◌, max}
 use Rattle.syn_term.specs.Terms.{TermTree, nodes, depth_of}
-use Rattle.syn_model.specs.declared.trees.Form.TheVariants as form
-use Rattle.syn_model.specs.declared.trees.Out.TheVariants as out
-use Rattle.syn_model.specs.Trees.{FormTree, OutTree}
+use Rattle.syn_app.specs.declared.trees.Form.TheVariants as form
+use Rattle.syn_app.specs.declared.trees.Out.TheVariants as out
+use Rattle.syn_app.specs.Trees.{FormTree, OutTree}
 use Rattle.syn_app.specs.declared.readings.Row.{Row}
 
 abbrev pub form_nodes : FormTree → ℕ

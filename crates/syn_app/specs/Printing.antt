@@ -6,9 +6,9 @@ use Rattle.syn_term.specs.declared.sorts.Kind.TheVariants as kind
 use Rattle.syn_term.specs.declared.term.Node.{fold-Node}
 use Rattle.syn_term.specs.Symbols.{SymbolTable, first_symbols}
 use Rattle.syn_term.specs.Terms.{TermTree, bare}
-use Rattle.syn_model.specs.declared.trees.Out.TheVariants as out
-use Rattle.syn_model.specs.Trees.{ProgramTree, input_symbol}
-use Rattle.syn_model.specs.ProgramText.{Printed, print_step}
+use Rattle.syn_app.specs.declared.trees.Out.TheVariants as out
+use Rattle.syn_app.specs.Trees.{ProgramTree, input_symbol}
+use Rattle.syn_app.specs.ProgramText.{Printed, print_step}
 use Rattle.syn_app.specs.SpecText.{nat_declared}
 
 -- the text of a term with the number that the text is, where it is one

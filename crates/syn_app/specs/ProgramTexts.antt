@@ -3,8 +3,8 @@
 use Rattle.std.specs.Prelude.{◌≡◌, ◌≢◌, ℕ, ◌≤◌, List, [], ◌∷◌, ◌++◌, codes}
 use Rattle.syn_term.specs.declared.sorts.Sort.TheVariants as sort
 use Rattle.syn_term.specs.Names.{IsName}
-use Rattle.syn_model.specs.declared.trees.Out.TheVariants as out
-use Rattle.syn_model.specs.Trees.{ProgramTree}
+use Rattle.syn_app.specs.declared.trees.Out.TheVariants as out
+use Rattle.syn_app.specs.Trees.{ProgramTree}
 use Rattle.syn_app.specs.declared.readings.TermReading.{TermReading}
 use Rattle.syn_app.specs.SpecText.{nat_declared}
 use Rattle.syn_app.specs.Terms.{term_text, term_tree, term_size, IsBase, IsClosed}

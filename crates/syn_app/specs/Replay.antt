@@ -6,10 +6,10 @@ use Rattle.syn_term.specs.declared.sorts.Sort.{Sort}
 use Rattle.syn_term.specs.declared.term.Node.{Node, fold-Node}
 use Rattle.syn_term.specs.declared.term.Node.TheOpen.{Node-F}
 use Rattle.syn_term.specs.Terms.{TermTree, variable_tree, application}
-use Rattle.syn_model.specs.declared.trees.Form.TheVariants as form
-use Rattle.syn_model.specs.declared.trees.Out.TheVariants as out
-use Rattle.syn_model.specs.Trees.{OutTree, TheoryTree, SpecTree, ProgramTree, spec_symbols}
-use Rattle.syn_model.specs.Primitive.{IsPrimitiveOut}
+use Rattle.syn_app.specs.declared.trees.Form.TheVariants as form
+use Rattle.syn_app.specs.declared.trees.Out.TheVariants as out
+use Rattle.syn_app.specs.Trees.{OutTree, TheoryTree, SpecTree, ProgramTree, spec_symbols}
+use Rattle.syn_app.specs.Primitive.{IsPrimitiveOut}
 use Rattle.syn_app.specs.declared.readings.Row.{Row}
 use Rattle.syn_app.specs.declared.readings.Step.{Step}
 use Rattle.syn_app.specs.declared.readings.Step.TheVariants as step

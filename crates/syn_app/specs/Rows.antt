@@ -6,9 +6,9 @@ use Rattle.syn_term.specs.declared.term.Node.{Node, fold-Node}
 use Rattle.syn_term.specs.declared.term.Node.TheOpen.{Node-F}
 use Rattle.syn_term.specs.Terms.{TermTree, variable_tree, application, bare}
 use Rattle.syn_term.specs.Same.{same_tree}
-use Rattle.syn_model.specs.declared.trees.Form.TheVariants as form
-use Rattle.syn_model.specs.declared.trees.Out.TheVariants as out
-use Rattle.syn_model.specs.Trees.{FormTree, OutTree}
+use Rattle.syn_app.specs.declared.trees.Form.TheVariants as form
+use Rattle.syn_app.specs.declared.trees.Out.TheVariants as out
+use Rattle.syn_app.specs.Trees.{FormTree, OutTree}
 use Rattle.syn_app.specs.declared.readings.Row.{Row}
 
 -- a substitution lists finitely many variables, by their numbers, each with its term

@@ -8,9 +8,9 @@ use Rattle.syn_term.specs.declared.sorts.Kind.TheVariants as kinds
 use Rattle.syn_term.specs.Symbols.{SymbolTable, symbol_at, zero_symbol, succ_symbol}
 use Rattle.syn_term.specs.Terms.{TermTree, variable_tree}
 use Rattle.syn_term.specs.Bank.{Kept, Agree, Belongs}
-use Rattle.syn_model.specs.declared.trees.Form.TheVariants as form
-use Rattle.syn_model.specs.declared.trees.Out.TheVariants as out
-use Rattle.syn_model.specs.Trees.{FormTree, OutTree, SpecTree}
+use Rattle.syn_app.specs.declared.trees.Form.TheVariants as form
+use Rattle.syn_app.specs.declared.trees.Out.TheVariants as out
+use Rattle.syn_app.specs.Trees.{FormTree, OutTree, SpecTree}
 use Rattle.syn_app.specs.declared.readings.TermReading.{TermReading}
 use Rattle.syn_app.specs.declared.readings.Row.{Row}
 use Rattle.syn_app.specs.declared.readings.Step.{Step}

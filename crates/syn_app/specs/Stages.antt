@@ -3,15 +3,15 @@ use Rattle.std.specs.Prelude.{◌≡◌, ◌⊎◌, ℕ, List, Option}
 use Rattle.syn_outside.specs.Files.{File, Told}
 use Rattle.syn_outside.specs.Faults.{HasCause, Rose}
 use Rattle.syn_outside.specs.Texts.{Adds, AddsPrefix}
-use Rattle.syn_model.specs.Trees.{TheoryTree, ProgramTree}
-use Rattle.syn_model.specs.ProgramText.{printed_program}
+use Rattle.syn_app.specs.Trees.{TheoryTree, ProgramTree}
+use Rattle.syn_app.specs.ProgramText.{printed_program}
 use Rattle.syn_app.specs.declared.readings.Entry.{Entry}
 use Rattle.syn_app.specs.declared.spec_text.SpecReading.{SpecReading}
 use Rattle.syn_app.specs.declared.status.Status.{Status}
 use Rattle.syn_app.specs.declared.status.Status.TheVariants as status
 use Rattle.syn_app.specs.declared.status.Which.{Which}
 use Rattle.syn_app.specs.declared.status.Which.TheVariants as which
-use Rattle.syn_app.specs.Lines.{IsFirstBad}
+use Rattle.syn_lex.specs.TextLines.{IsFirstBad}
 use Rattle.syn_app.specs.TheoryText.{ExtendsTheory, IsTheoryText, WholeTheory}
 use Rattle.syn_app.specs.SpecText.{ExtendsSpec, WholeSpec}
 use Rattle.syn_app.specs.DerivationText.{ExtendsDerivation, IsDerivationText, WholeDerivation}

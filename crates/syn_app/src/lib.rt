@@ -17,6 +17,7 @@ mod status;
 mod terms;
 mod theory_text;
 mod top;
+mod trees;
 
 pub use command::{Command, command_of};
 pub use readings::{Base, Entry, FormReading, Row, RowReading, Step, TermReading};

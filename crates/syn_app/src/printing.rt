@@ -4,8 +4,8 @@
 ghost use Rattle.std.specs.Prelude.{◌≡◌, ◌++◌, ◌==◌, [], codes, decimal, if◌then◌else◌, string_bytes, IfOk, OnOk};
 ghost use Rattle.std.specs.Option.{option_map};
 ghost use Rattle.syn_term.specs.Symbols.{symbol_at};
-ghost use Rattle.syn_model.specs.ProgramText.{name_of, printed_program, printed_term};
-ghost use Rattle.syn_model.specs.Trees.{TheoryTree};
+ghost use Rattle.syn_app.specs.ProgramText.{name_of, printed_program, printed_term};
+ghost use Rattle.syn_app.specs.Trees.{TheoryTree};
 ghost use Rattle.syn_app.specs.Printing.{nat_program, nat_program_symbols, next_number, printing_of};
 
 use itoa::Buffer;

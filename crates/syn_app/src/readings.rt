@@ -1,5 +1,5 @@
 // What lines are read as, before trees are made of them: each reading takes no memory of its own.
-use syn_model::{Form, Out};
+use crate::trees::{Form, Out};
 
 /// What stands in the innermost brackets of a term.
 #[derive(Clone, Copy, Debug)]

@@ -13,9 +13,9 @@ ghost use Rattle.syn_app.specs.Shapes.{AreShaped, FirstUnshaped, HasEquation, Ha
 
 use crate::readings::{Row, RowReading, Step};
 use crate::rows::{row_of, simplified};
+use crate::trees::{Form, Out};
 use sqlite_items::at;
 use std::alloc::Global;
-use syn_model::{Form, Out};
 use syn_term::{Bank, Head, NoMemory, Sort, Symbols, Term, Var};
 
 /// Why a derivation isn't accepted.

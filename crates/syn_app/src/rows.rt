@@ -10,8 +10,8 @@ ghost use Rattle.syn_app.specs.Rows.{bare_form, bare_row, simplified_row};
 ghost use Rattle.syn_app.specs.Shapes.{FormBelongs, HasTexts, IsLeaf, RowBelongs, SidesAgree};
 
 use crate::readings::{Base, FormReading, Row, RowReading, TermReading};
+use crate::trees::{Form, Out};
 use std::alloc::Global;
-use syn_model::{Form, Out};
 use syn_term::{Bank, NoMemory, Sort, SymId, Symbols, Term, Var};
 
 /// The symbols of a specification with one input, by their numbers.

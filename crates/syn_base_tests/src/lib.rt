@@ -4,7 +4,11 @@
 #![tactic(auto)]
 
 #[cfg(test)]
+mod lines;
+#[cfg(test)]
 mod names;
+#[cfg(test)]
+mod outside;
 #[cfg(test)]
 mod positions;
 #[cfg(test)]
@@ -13,5 +17,7 @@ mod sorts;
 mod symbols;
 #[cfg(test)]
 mod terms;
+#[cfg(test)]
+mod tokens;
 #[cfg(test)]
 mod words;

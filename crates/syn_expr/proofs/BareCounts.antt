@@ -14,7 +14,7 @@ use Rattle.syn_form.specs.Trees.{FormTree, OutTree, QFormTree, bare_form, bare_o
 use Rattle.syn_form.specs.Quantified.{bare_qform, bare_qform_step, qform_depth, qform_depth_step, qform_nodes, qform_nodes_step}
 use Rattle.syn_form.proofs.Equations.{bare_form-True, bare_form-False, bare_form-Atom, bare_form-Equal, bare_form-Not, bare_form-And, bare_form-Or, bare_form-Implies, bare_out-Give, bare_out-If, fold-Atom, fold-Equal, fold-Not, fold-And, fold-Or, fold-Implies, fold-Give, fold-If}
 use Rattle.syn_form.proofs.Induction.{by_forms, by_outs}
-use Rattle.syn_plain.proofs.QForms.{qfold-True, qfold-False, qfold-Atom, qfold-Equal, qfold-Not, qfold-And, qfold-Or, qfold-Implies, qfold-All, qfold-Exists, by_qform_cases}
+use Rattle.syn_form.proofs.QForms.{qfold-True, qfold-False, qfold-Atom, qfold-Equal, qfold-Not, qfold-And, qfold-Or, qfold-Implies, qfold-All, qfold-Exists, by_qform_cases}
 
 -- a term
 pub nodes_bare : (t : TermTree) → nodes (bare t) ≡ nodes t

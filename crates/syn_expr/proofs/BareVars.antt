@@ -10,7 +10,7 @@ use Rattle.syn_form.specs.Trees.{FormTree, OutTree, QFormTree, all_of, bare_form
 use Rattle.syn_form.specs.Quantified.{bare_qform, bare_qform_step, qform_vars, qform_vars_step}
 use Rattle.syn_form.proofs.Equations.{bare_form-True, bare_form-False, bare_form-Atom, bare_form-Equal, bare_form-Not, bare_form-And, bare_form-Or, bare_form-Implies, bare_out-Give, bare_out-If, form_terms-True, form_terms-False, form_terms-Atom, form_terms-Equal, form_terms-Not, form_terms-And, form_terms-Or, form_terms-Implies, out_terms-Give, out_terms-If}
 use Rattle.syn_form.proofs.Induction.{by_forms, by_outs}
-use Rattle.syn_plain.proofs.QForms.{qfold-True, qfold-False, qfold-Atom, qfold-Equal, qfold-Not, qfold-And, qfold-Or, qfold-Implies, qfold-All, qfold-Exists, by_qform_cases}
+use Rattle.syn_form.proofs.QForms.{qfold-True, qfold-False, qfold-Atom, qfold-Equal, qfold-Not, qfold-And, qfold-Or, qfold-Implies, qfold-All, qfold-Exists, by_qform_cases}
 
 pub term_vars_bare : (t : TermTree) → term_vars (bare t) ≡ term_vars t
 term_vars_bare = fold-bare term_vars_step (λ p v. refl) (λ p f xs. refl)

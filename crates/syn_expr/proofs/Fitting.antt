@@ -19,7 +19,7 @@ use Rattle.syn_parse.specs.Lexemes.{IsCanonical}
 use Rattle.syn_expr.specs.Limits.{term_levels, term_levels_step}
 use Rattle.syn_expr.specs.Proper.{all_true, is_proper_head, is_proper_term, is_symbol_name, proper_applied, proper_term_step}
 use Rattle.syn_parse.specs.Written.{Written, has_args, has_args_step, some_all, term_height, term_height_step}
-use Rattle.syn_plain.proofs.Sorting.{both_true}
+use Rattle.syn_form.proofs.Sorting.{both_true}
 use Rattle.syn_parse.proofs.TermShapes.{some_height}
 use Rattle.syn_expr.proofs.TermSyntaxes.{fold-Number, fold-RowVar, fold-Alone, fold-Applied, by_term_syntax}
 

@@ -25,7 +25,7 @@ use Rattle.syn_expr.specs.Elaborating.{binder_var}
 use Rattle.syn_expr.specs.Limits.{form_cost, form_cost_step, form_levels, form_levels_step, term_cost, term_levels}
 use Rattle.syn_expr.proofs.FormMaking.{both, bound_is}
 use Rattle.syn_expr.proofs.FormSyntaxes.{by_form_syntax, fold-True, fold-False, fold-Atom, fold-Equal, fold-Not, fold-And, fold-Or, fold-Implies, fold-BothWays, fold-Quantified}
-use Rattle.syn_plain.proofs.QForms.{qfold-True, qfold-False, qfold-Atom, qfold-Equal, qfold-Not, qfold-And, qfold-Or, qfold-Implies, qfold-All, qfold-Exists}
+use Rattle.syn_form.proofs.QForms.{qfold-True, qfold-False, qfold-Atom, qfold-Equal, qfold-Not, qfold-And, qfold-Or, qfold-Implies, qfold-All, qfold-Exists}
 use Rattle.syn_expr.proofs.TermCounts.{all_counted, step_there, term_nodes_are, term_depth_is, value_there}
 
 pub chosen_is : {A : Type 0} (b : Bool) (x y : A) → (if b then Some x else None) ≡ Some y → (b ≡ true) × (x ≡ y)

@@ -23,7 +23,7 @@ use Rattle.syn_expr.specs.Limits.{term_levels_step, form_levels, form_levels_ste
 use Rattle.syn_expr.specs.Proper.{all_true, are_proper_binders, is_proper_binder, is_proper_form, is_proper_out, is_proper_term, proper_applied, proper_atom, proper_form_step, proper_out_step, proper_term_step}
 use Rattle.syn_parse.specs.Written.{WrittenUnary, WrittenConj, WrittenDisj, WrittenImp, WrittenForm, WrittenOut}
 use Rattle.syn_expr.proofs.Fitting.{canonical_name, front_all, last_all, commas_canonical, one_canonical, between_canonical, brackets_canonical, greatest_below, some_levels, term_fit}
-use Rattle.syn_plain.proofs.Sorting.{both_true}
+use Rattle.syn_form.proofs.Sorting.{both_true}
 use Rattle.syn_expr.proofs.TermSyntaxes.{fold-Applied}
 use Rattle.syn_expr.proofs.FormSyntaxes.{by_form_syntax, by_out_syntax, fold-True, fold-False, fold-Atom, fold-Equal, fold-Not, fold-And, fold-Or, fold-Implies, fold-BothWays, fold-Quantified, fold-Give, fold-If}
 

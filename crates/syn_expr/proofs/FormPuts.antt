@@ -28,8 +28,8 @@ use Rattle.syn_form.specs.PlainQuantified.{IsFormedQ}
 use Rattle.syn_expr.specs.Readable.{IsNamed, CanReadSort, CanReadTerm, CanReadAtom, CanReadEquality, Placed, binder, CanReadLeaf, leaves, leaves_step, CanReadQForm}
 use Rattle.syn_form.specs.Grammar.{UnaryText, ConjText, DisjText, FormText, truth, falsity, atom, equality, no, one_unary, and_also, one_conj, or_also, spelling, fixed, words_of_term, words_of_unary, words_of_conj, words_of_disj, words_of_form, sort_lexeme}
 use Rattle.syn_form.specs.Printing.{PrintedForm, inner, tight_text, loose_text, name_of, texts_of, joined, sort_text, applied_text, atom_text, equality_text, implication_text, quantified_text, printing_of, printed_term, in_scope_of, print_qform_step, printing_of_qform}
-use Rattle.syn_plain.proofs.QForms.{QFormCases, by_qform_cases, qfold-True, qfold-False, qfold-Atom, qfold-Equal, qfold-Not, qfold-And, qfold-Or, qfold-Implies, qfold-All, qfold-Exists}
-use Rattle.syn_plain.proofs.QNodes.{node-Atom, node-Equal, node-And, node-Or, part-Not, parts-And, parts-Or, parts-Implies, part-All, part-Exists}
+use Rattle.syn_form.proofs.QForms.{QFormCases, by_qform_cases, qfold-True, qfold-False, qfold-Atom, qfold-Equal, qfold-Not, qfold-And, qfold-Or, qfold-Implies, qfold-All, qfold-Exists}
+use Rattle.syn_form.proofs.QNodes.{node-Atom, node-Equal, node-And, node-Or, part-Not, parts-And, parts-Or, parts-Implies, part-All, part-Exists}
 use Rattle.syn_expr.proofs.TreeReadings.{FormWritten, tight_written, loose_written, conj_on, disj_on, and_written, or_written, implication_written, quantified_written, term_written, qform_written_step, qform_written}
 use Rattle.syn_expr.proofs.Puts.{PutsWords, Puts, EachPuts, IsOfKind, each_after, token_puts, token_then, head_puts, in_brackets_puts, both_puts, word_then_space, joined_puts, dot_stops, and_between, or_between, arrow_between, equals_between}
 use Rattle.syn_expr.proofs.TermPuts.{term_goes, sort_name}

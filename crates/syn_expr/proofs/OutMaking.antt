@@ -16,7 +16,7 @@ use Rattle.syn_form.proofs.Equations.{fold-Give, fold-If, bare_out-Give, bare_ou
 use Rattle.syn_form.proofs.Induction.{by_outs}
 use Rattle.syn_expr.specs.Elaborating.{bare_reading}
 use Rattle.syn_expr.proofs.FormMaking.{both}
-use Rattle.syn_plain.proofs.Sorting.{sort_bare}
+use Rattle.syn_form.proofs.Sorting.{sort_bare}
 use Rattle.syn_expr.proofs.Unquantifying.{unquantified_bare}
 
 -- the formula that was read is made one without quantifiers

@@ -25,7 +25,7 @@ use Rattle.syn_form.proofs.Equations.{form_nodes-True, form_nodes-False, form_no
 use Rattle.syn_expr.specs.Limits.{form_cost, form_levels, out_cost, out_cost_step, out_levels, out_levels_step, term_cost, term_levels}
 use Rattle.syn_expr.proofs.FormCounts.{chosen_is, form_nodes_are, form_depth_is}
 use Rattle.syn_expr.proofs.FormSyntaxes.{by_out_syntax, fold-Give, fold-If}
-use Rattle.syn_plain.proofs.QForms.{by_qform_cases, qfold-True, qfold-False, qfold-Atom, qfold-Equal, qfold-Not, qfold-And, qfold-Or, qfold-Implies, qfold-All, qfold-Exists}
+use Rattle.syn_form.proofs.QForms.{by_qform_cases, qfold-True, qfold-False, qfold-Atom, qfold-Equal, qfold-Not, qfold-And, qfold-Or, qfold-Implies, qfold-All, qfold-Exists}
 use Rattle.syn_expr.proofs.TermCounts.{all_counted, step_there, term_nodes_are, term_depth_is, value_there}
 
 -- a number of a formula without quantifiers, and of one with them, each from those of its parts

@@ -30,7 +30,7 @@ use Rattle.syn_expr.specs.Proper.{all_true, are_proper_binders, is_proper_binder
 use Rattle.syn_expr.proofs.FormCounts.{read_before, steady_before, two_before}
 use Rattle.syn_expr.proofs.FormMaking.{both, bound_is}
 use Rattle.syn_expr.proofs.FormSyntaxes.{by_form_syntax, by_out_syntax, fold-True, fold-False, fold-Atom, fold-Equal, fold-Not, fold-And, fold-Or, fold-Implies, fold-BothWays, fold-Quantified, fold-Give, fold-If}
-use Rattle.syn_plain.proofs.Sorting.{and_true, both_true}
+use Rattle.syn_form.proofs.Sorting.{and_true, both_true}
 use Rattle.syn_expr.proofs.TermCounts.{step_there, value_there}
 use Rattle.syn_expr.proofs.TermSyntaxes.{fold-Number, fold-RowVar, fold-Alone, fold-Applied, by_term_syntax}
 

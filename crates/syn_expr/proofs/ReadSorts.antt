@@ -52,7 +52,7 @@ module _ (scope : TextScope) where
   sort_at : (t : TermTree) (x : Node-F Node) → out-Node t ≡ x → SortedNode scope.table x → CanReadNode scope x → HasSort (sort_of scope.table t)
   sort_at t (Node-F.Var p v) e h c = (v.sort, rw e refl)
   sort_at t (Node-F.App p f args) e h c =
-      subst HasSort (sym (result_is scope.table t p f args c.sym e c.is)) (applied_there c.sym h.sym (sym c.is ∙ h.is) h.no_relation h.no_order c.valued)
+      subst HasSort (sym (result_is scope.table t p f args c.sym e c.is)) (applied_there c.sym h.0.sym (sym c.is ∙ h.0.is) h.0.no_relation h.0.no_order c.valued)
 
   -- a term that is sorted and can be read has a sort
   pub sort_there : (t : TermTree) → IsSorted scope.table t → CanReadTerm scope t → HasSort (sort_of scope.table t)

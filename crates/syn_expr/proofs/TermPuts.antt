@@ -35,7 +35,7 @@ use Rattle.syn_form.specs.Printing.{Printed, applied_text, applied_printed, numb
 use Rattle.syn_expr.proofs.TermSyntaxes.{fold-Number, fold-RowVar, fold-Alone, fold-Applied}
 use Rattle.syn_expr.proofs.TreeReadings.{Written, applied_syntax, applied_written, number_written, successor_written, kind_written, symbol_written, syntaxes_of, sort_written, var_written, written_step, writing_of, term_written}
 use Rattle.syn_expr.proofs.Puts.{PutsWords, Puts, EachPuts, IsOfKind, token_puts, head_puts}
-use Rattle.syn_plain.proofs.TermNodes.{node-Var, node-App, parts-App, by_term_cases}
+use Rattle.syn_form.proofs.TermNodes.{node-Var, node-App, parts-App, by_term_cases}
 
 -- the text has the words of the syntax tree, and both are the same number or none
 pub record TermPuts (p : Printed) (w : Written) : Type 0 where
@@ -162,7 +162,7 @@ module _ (scope : TextScope) where
   at_app : (p : Place) (f : SymId) (args : List TermTree) → All GoesTerm args → GoesTerm (view.App p f args)
   at_app p f args h sorted can =
       let c = node-App (CanReadNode scope) p f args can in
-      let a = node-App (SortedNode scope.table) p f args sorted in
+      let a = (node-App (SortedNode scope.table) p f args sorted).0 in
       let all = all_go args h (parts-App (SortedNode scope.table) p f args sorted) (parts-App (CanReadNode scope) p f args can) in
       let ps = map (printing_of scope) args in
       let ws = map (writing_of scope) args in

@@ -8,7 +8,7 @@ use Rattle.syn_form.specs.Lists.{all_there}
 use Rattle.syn_form.specs.Quantified.{bare_qform, bare_qform_step, unquantified, unquantified_step}
 use Rattle.syn_form.specs.Trees.{FormTree, QFormTree, bare_form}
 use Rattle.syn_form.proofs.Equations.{bare_form-True, bare_form-False, bare_form-Atom, bare_form-Equal, bare_form-Not, bare_form-And, bare_form-Or, bare_form-Implies}
-use Rattle.syn_plain.proofs.QForms.{by_qform_cases, qfold-True, qfold-False, qfold-Atom, qfold-Equal, qfold-Not, qfold-And, qfold-Or, qfold-Implies, qfold-All, qfold-Exists}
+use Rattle.syn_form.proofs.QForms.{by_qform_cases, qfold-True, qfold-False, qfold-Atom, qfold-Equal, qfold-Not, qfold-And, qfold-Or, qfold-Implies, qfold-All, qfold-Exists}
 
 abbrev SameBare : QFormTree → Type 0
 SameBare f = unquantified (bare_qform f) ≡ option_map bare_form (unquantified f)

@@ -16,9 +16,9 @@ use crate::limits::{form_cost, form_levels, out_cost, out_levels, term_cost, ter
 use crate::names::outside;
 use crate::scope::Scope;
 use std::alloc::Global;
-use syn_form::{Form, FormSyntax, Out, OutSyntax, QForm, TermSyntax};
-use syn_plain::{
-    form_has_one_sort_each, out_has_one_sort_each, qform_has_one_sort_each, term_has_one_sort_each,
+use syn_form::{
+    Form, FormSyntax, Out, OutSyntax, QForm, TermSyntax, form_has_one_sort_each,
+    out_has_one_sort_each, qform_has_one_sort_each, term_has_one_sort_each,
 };
 use syn_term::{Bank, NoMemory, Term};
 

@@ -13,8 +13,7 @@ use crate::elaborate_term::elaborate_term;
 use crate::names::Inside;
 use crate::unquantified::without_quantifiers;
 use std::alloc::Global;
-use syn_form::{Form, FormSyntax, Out, OutSyntax};
-use syn_plain::{are_of_one_sort, given_sort};
+use syn_form::{Form, FormSyntax, Out, OutSyntax, are_of_one_sort, given_sort};
 use syn_term::{Bank, NoMemory, Shared, Sort, Symbols};
 
 /// The formula without quantifiers that the syntax tree stands for; None where it stands for none.

@@ -17,8 +17,7 @@ use crate::lookups::symbol_named;
 use crate::names::Inside;
 use sqlite_items::Items;
 use std::alloc::Global;
-use syn_form::{Binder, QForm, Quantifier, TermSyntax};
-use syn_plain::{are_of_one_sort, is_atom, sort_in};
+use syn_form::{Binder, QForm, Quantifier, TermSyntax, are_of_one_sort, is_atom, sort_in};
 use syn_term::{Bank, NoMemory, Shared, SymId, Symbols, Term, Text};
 
 /// The terms that the syntax trees stand for; None where one stands for none.

@@ -7,7 +7,7 @@ use std::test::Fail;
 use syn_expr::{ExprError, Scope, read_form, read_out, read_qform, read_term};
 use syn_form::{Form, Mono, Out, QForm};
 use syn_term::{Bank, NoMemory, Sort, SymId, Term, Text, Var};
-use syn_theory::{Decl, DeclError, Theory};
+use syn_model::{Decl, DeclError, Theory};
 
 const NAT: Sort = Sort::Nat;
 
@@ -221,7 +221,7 @@ fn decl(alloc: Global, theory: &Theory, line: Line) -> Result<Decl, Fail> {
 /// Whether the theory took the declaration.
 fn is_taken(alloc: Global, theory: &mut Theory, line: Line) -> Result<bool, Fail> {
     let decl = decl(alloc, theory, line)?;
-    match theory.declare(alloc, decl) {
+    match theory.declare(decl) {
         Ok(()) => Ok(true),
         Err(DeclError::Refused) => Ok(false),
         Err(DeclError::NoMemory) => Err(Fail::new("no memory")),

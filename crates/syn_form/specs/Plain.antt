@@ -1,7 +1,7 @@
--- Plain trees: those that texts stand for. Each symbol has arguments of its sorts, chains have two members or more, and no
--- variable number has two sorts.
+-- Public. Plain trees: those that texts stand for. Each symbol has arguments of its sorts, each term has a sort of the table, chains
+-- have two members or more, and no variable number has two sorts.
 use Rattle.std.specs.Prelude.{◌≡◌, ◌≤◌, ◌⊎◌, List, [], ◌++◌, Option, Some, IfSome, All, Contains, map, length}
-use Rattle.std.specs.Option.{option_map_or}
+use Rattle.std.specs.Option.{option_and_then, option_map_or}
 use Rattle.syn_term.specs.declared.sorts.Sym.{Sym}
 use Rattle.syn_term.specs.declared.sorts.SymId.{SymId}
 use Rattle.syn_term.specs.declared.sorts.Var.{Var}
@@ -9,7 +9,7 @@ use Rattle.syn_term.specs.declared.sorts.Sort.{Sort}
 use Rattle.syn_term.specs.declared.sorts.Kind.TheVariants as kind
 use Rattle.syn_term.specs.declared.term.Node.{Node, every-Node}
 use Rattle.syn_term.specs.declared.term.Node.TheOpen.{Node-F}
-use Rattle.syn_term.specs.Symbols.{SymbolTable, symbol_at}
+use Rattle.syn_term.specs.Symbols.{SymbolTable, IsSort, symbol_at}
 use Rattle.syn_term.specs.Terms.{TermTree, sort_of, IsApplication}
 use Rattle.syn_form.specs.declared.trees.Form.{Form, every-Form}
 use Rattle.syn_form.specs.declared.trees.Form.TheOpen.{Form-F}
@@ -17,11 +17,20 @@ use Rattle.syn_form.specs.declared.trees.Out.{Out, fold-Out, every-Out}
 use Rattle.syn_form.specs.declared.trees.Out.TheOpen.{Out-F}
 use Rattle.syn_form.specs.Trees.{FormTree, OutTree, form_vars, out_vars}
 
-abbrev pub SortedNode : SymbolTable → Node-F Node → Type 0
-SortedNode table (Node-F.Var place v) = Unit {0}
-SortedNode table (Node-F.App place f args) = IsApplication table f args
+-- the sort of a symbol's result; none where the symbol isn't in the table or has no result
+abbrev pub result_of : SymbolTable → SymId → Option Sort
+result_of table f = option_and_then (λ s. s.result) (symbol_at table f)
 
--- each symbol of the term has arguments of its sorts
+-- a sort is there, and it is one of the table's
+abbrev pub IsKnownSort : SymbolTable → Option Sort → Type 0
+IsKnownSort table o = (s : Sort) × (o ≡ Some s) × IsSort table s
+
+-- a variable has a sort of the table; a symbol has arguments of its sorts and a result, whose sort is one of the table's
+abbrev pub SortedNode : SymbolTable → Node-F Node → Type 0
+SortedNode table (Node-F.Var place v) = IsSort table v.sort
+SortedNode table (Node-F.App place f args) = IsApplication table f args × IsKnownSort table (result_of table f)
+
+-- each symbol of the term has arguments of its sorts, and each subterm has a sort of the table
 abbrev pub IsSorted : SymbolTable → TermTree → Type 0
 IsSorted table = every-Node (SortedNode table)
 

@@ -1,7 +1,6 @@
-pub mod Values
-pub mod Trees
-pub mod Evaluation
-pub mod Truth
-pub mod Correctness
-pub mod ProgramText
-pub mod Primitive
+pub mod Tables
+pub mod Headings
+pub mod Clauses
+pub mod Theories
+pub mod Declaring
+pub mod inner

@@ -1,8 +1,21 @@
-//! What correctness speaks of: values, formulas and outputs, theories, specifications and programs,
-//! evaluation with its turns, truth, the printed program, and what it is for a program to be
-//! correct. The definitions are in specs/; the types here are the trees that they are about.
+//! Theories as lists of declarations: which declaration may follow which others, and the table of
+//! symbols that they make.
 #![tactic(auto)]
 
-mod trees;
+mod among;
+mod axioms;
+mod clauses;
+mod closed;
+mod decl;
+mod headings;
+mod may_follow;
+mod monos;
+mod naming;
+mod orders;
+mod patterns;
+mod theory;
+mod turns;
+mod uses;
 
-pub use trees::{Form, Out, Value};
+pub use decl::Decl;
+pub use theory::{DeclError, Theory};

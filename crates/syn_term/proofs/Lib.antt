@@ -9,6 +9,7 @@ pub mod Fronts
 pub mod Passes
 pub mod WordRuns
 pub mod ReservedWords
+pub mod Continuing
 pub mod NameRuns
 pub mod NumberRuns
 pub mod Cuts
@@ -17,6 +18,8 @@ pub mod SkolemRuns
 pub mod SignRuns
 pub mod TokenLaws
 pub mod TokenBegins
+pub mod WholeTokens
+pub mod StartCases
 pub mod Spaced
 pub mod BeginsCases
 pub mod OneSpelling

@@ -1,5 +1,5 @@
 use Rattle.std.proofs.Common.{◌≡◌, ◌++◌, codes, map, take, string_bytes}
-use Rattle.syn_model.specs.ProgramText.{joined, texts_of}
+use Rattle.syn_app.specs.ProgramText.{joined, texts_of}
 use Rattle.syn_app.specs.Printing.{printing_of}
 use Rattle.syn_app.proofs.printing.+print_term.Given as goal
 

@@ -1,0 +1,8 @@
+use Rattle.std.proofs.Common.{◌↔◌, ◌++◌, List, IfOk, IsTrue, ◌∙◌, ap, subst}
+use Rattle.syn_term.specs.declared.sorts.Var.{Var}
+use Rattle.syn_form.specs.Plain.{HasOneSortEach}
+use Rattle.syn_form.specs.Trees.{term_vars}
+use Rattle.syn_form.proofs.vars.term_has_one_sort_each.Goals as goal
+
+pub returns : goal.returns
+returns c = subst (λ (z : List Var). IfOk c.have_one_sort_each.result (λ b. IsTrue b ↔ HasOneSortEach z)) (c.as_slice.ensures ∙ (c.in_ok-put_term_vars.ensures ∙ ap (λ (z : List Var). z ++ term_vars c.args.t.now) c.new-vars.ensures)) c.have_one_sort_each.ensures

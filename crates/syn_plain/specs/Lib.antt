@@ -1,3 +1,0 @@
-pub mod Sorted
-pub mod Heads
-pub mod Numbers

@@ -1,5 +1,0 @@
-use Rattle.syn_theory.proofs.ClauseLaws.{over_args}
-use Rattle.syn_theory.proofs.clauses.out_is_over_args.Goals as goal
-
-pub returns : goal.returns
-returns c = over_args _ _ _ _ c.args.args.now c.in_ok-vars.ensures c.as_slice.ensures c.out_is_over.ensures

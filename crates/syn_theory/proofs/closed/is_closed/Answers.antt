@@ -1,6 +1,0 @@
-use Rattle.syn_theory.proofs.Deciding.{tested}
-use Rattle.syn_theory.proofs.Free.{among_none}
-use Rattle.syn_theory.proofs.closed.is_closed.Goals as goal
-
-pub returns : goal.returns
-returns c = tested _ _ _ c.form_is_bound.ensures (among_none _ _ c.nothing.ensures)

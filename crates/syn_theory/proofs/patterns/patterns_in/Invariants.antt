@@ -1,7 +1,0 @@
-use Rattle.std.proofs.Common.{◌≡◌, take}
-use Rattle.syn_theory.specs.Headings.{patterns_of}
-use Rattle.syn_theory.specs.Views.{counted}
-use Rattle.syn_theory.proofs.patterns.patterns_in.Given as goal
-
-abbrev pub invariant-loop-i : goal.invariant-loop-i
-invariant-loop-i l = l.found ≡ counted (patterns_of (take l.i l.args))

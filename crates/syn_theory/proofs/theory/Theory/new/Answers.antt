@@ -1,5 +1,0 @@
-use Rattle.syn_theory.proofs.Keeping.{kept_new}
-use Rattle.syn_theory.proofs.theory.Theory.new.Goals as goal
-
-pub invariant_of-result : goal.invariant_of-result
-invariant_of-result c = kept_new _ _ c.in_ok-new.ensures.first c.new-2.ensures

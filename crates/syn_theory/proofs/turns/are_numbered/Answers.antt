@@ -1,5 +1,0 @@
-use Rattle.syn_theory.proofs.NumberLaws.{numbered_test}
-use Rattle.syn_theory.proofs.turns.are_numbered.Goals as goal
-
-pub returns : goal.returns
-returns c = numbered_test _ _ _ c.numbered_terms.ensures.number c.is_some.ensures
