@@ -1,4 +1,4 @@
--- Files as lines, and lines as words. A file is a list of lines, each ended by a line feed, counted from 1. A line is
+-- For public contracts: files as lines, and lines as words. A file is a list of lines, each ended by a line feed, counted from 1. A line is
 -- made of words with one space between.
 use Rattle.std.specs.Prelude.{◌≡◌, ℕ, ◌+◌, ◌<◌, ◌≤◌, List, [], ◌∷◌, ◌++◌, All, length, take, slice_index_or}
 use Rattle.std.specs.List.{flat_map}

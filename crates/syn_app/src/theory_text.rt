@@ -2,7 +2,7 @@
 // nothing; so that a line is missing and that it is wrong are one refusal.
 ghost use Rattle.std.specs.Prelude.{◌≡◌, List, ℕ, MatchOption, MatchResult};
 ghost use Rattle.syn_term.specs.Names.{IsName};
-ghost use Rattle.syn_app.specs.Readers.{Refuses};
+ghost use Rattle.syn_app.specs.inner.Readers.{Refuses};
 ghost use Rattle.syn_app.specs.TheoryText.{ExtendsTheory, IsTheoryText, WholeTheory, theory_line};
 
 use crate::lines::{FileError, cut_lines, strip};
