@@ -1,4 +1,4 @@
--- Public. Lines as words: a line is made of words with one space between.
+-- For public contracts: lines as words. A line is made of words with one space between.
 use Rattle.std.specs.Prelude.{◌≡◌, ℕ, ◌<◌, List, [], ◌∷◌, ◌++◌, All, length}
 use Rattle.syn_lex.specs.TextLines.{Without}
 

@@ -1,4 +1,4 @@
--- The text of a theory: the one line `theory NAME`.
+-- For public contracts: the text of a theory: the one line `theory NAME`.
 use Rattle.std.specs.Prelude.{◌≡◌, ℕ, List, [], ◌∷◌, codes, length}
 use Rattle.syn_term.specs.Names.{IsName}
 use Rattle.syn_app.specs.Trees.{TheoryTree}

@@ -1,10 +1,10 @@
 // Files as lines and the rest behind the last line feed.
 use std::alloc::Global;
-use syn_lex::cut_lines;
+use syn_lex::split_lines;
 
 /// Whether the bytes are cut into these lines and this rest.
 fn is_cut_into(alloc: Global, bytes: &[u8], lines: &[&[u8]], rest: &[u8]) -> bool {
-    match cut_lines(alloc, bytes) {
+    match split_lines(alloc, bytes) {
         Ok(cut) => cut.lines.as_slice() == lines && cut.rest == rest,
         Err(_) => false,
     }

@@ -10,6 +10,6 @@ mod token;
 mod words;
 
 pub use lexer::tokens;
-pub use lines::{Cut, FileError, cut_lines, split_at};
+pub use lines::{Cut, FileError, split_at, split_lines};
 pub use syn_term::TokenKind;
 pub use token::{LexError, Token};

@@ -56,7 +56,7 @@ fn cut_at_feeds(alloc: Global, bytes: &[u8]) -> Result<Cut<'_>, NoMemory>
 
 /// Cuts a file into its lines, in order. A line feed ends a line, and what follows the last one is the
 /// rest. It takes 16 bytes of memory a line, and `NoMemory` is the one error.
-pub fn cut_lines(alloc: Global, bytes: &[u8]) -> Result<Cut<'_>, NoMemory>
+pub fn split_lines(alloc: Global, bytes: &[u8]) -> Result<Cut<'_>, NoMemory>
     ensures cut { IfOk result (λ cut. IsCut bytes.now (map (λ line. line.now) cut.lines.items) cut.rest.now) }
     ensures one { OneCut bytes.now }
 {

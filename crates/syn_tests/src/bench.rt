@@ -136,9 +136,9 @@ fn told(alloc: Global, status: Status, put: &[u8], is_kept: bool) -> Result<Stri
     if !is_kept {
         line.push_str(" and other files")?;
     }
-    if let Ok(text) = str::from_utf8(put) && !text.is_empty() {
+    if !put.is_empty() {
         line.push(' ')?;
-        put_marked(&mut line, text)?;
+        put_marked(&mut line, str::from_utf8(put).unwrap_or("no text"))?;
     }
     Ok(line)
 }
@@ -229,9 +229,9 @@ fn texts_in(bytes: &[u8]) -> Texts<'_> {
     let usual = identity();
     let mut parts = bytes.split(|byte| *byte == b';');
     Texts {
-        theory: part(parts.next().unwrap_or(b""), usual.theory),
-        spec: part(parts.next().unwrap_or(b""), usual.spec),
-        deriv: part(parts.next().unwrap_or(b""), usual.deriv),
+        theory: part(parts.next().unwrap_or(&[]), usual.theory),
+        spec: part(parts.next().unwrap_or(&[]), usual.spec),
+        deriv: part(parts.next().unwrap_or(&[]), usual.deriv),
     }
 }
 

@@ -9,7 +9,7 @@ const MOST: usize = 4_194_304;
 
 /// One byte a call, of which one read fails. A file of n bytes takes n + 1 calls, the last of which
 /// finds its end; the files have 13, 53 and 66 bytes.
-const fn reading(read: u64) -> Outside {
+fn reading(read: u64) -> Outside {
     Outside {
         step: 1,
         read,
@@ -18,7 +18,7 @@ const fn reading(read: u64) -> Outside {
 }
 
 /// Eight bytes a call, of which one put fails. The program has 30 bytes.
-const fn putting(put: u64) -> Outside {
+fn putting(put: u64) -> Outside {
     Outside {
         step: 8,
         read: 0,

@@ -1,7 +1,7 @@
 use Rattle.std.proofs.Common.{◌≡◌, ◌+◌, List, ℕ, Bor, map, length, sym, ◌∙◌, ap, arith, subst}
 use Rattle.std.proofs.lemmas.List.{length-map}
 use Rattle.syn_app.specs.DerivationText.{ExtendsDerivation}
-use Rattle.syn_app.specs.Readers.{RefusesLines}
+use Rattle.syn_app.specs.inner.Readers.{RefusesLines}
 use Rattle.syn_app.proofs.RowTexts.{derivation_refused, derivation_open}
 use Rattle.syn_app.proofs.SpecTexts.{not_empty}
 use Rattle.syn_app.proofs.derivation_text.read_derivation.Goals as goal

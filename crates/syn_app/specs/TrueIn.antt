@@ -1,4 +1,4 @@
--- Truth of formulas without program calls. It is no computation: an equality is true where for some bound on the
+-- For public contracts: truth of formulas without program calls. It is no computation: an equality is true where for some bound on the
 -- nesting both sides give one value.
 use Rattle.std.specs.Prelude.{◌≡◌, ℕ, Some}
 use Rattle.syn_app.specs.declared.trees.Value.{Value}

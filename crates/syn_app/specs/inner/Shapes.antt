@@ -1,4 +1,4 @@
--- The rows that follow for a specification whose condition is `z = T`, with no variable in T: a variant of the goal, or
+-- For private contracts: the rows that follow for a specification whose condition is `z = T`, with no variable in T: a variant of the goal, or
 -- `true | T`. The check looks for these two shapes, and a law ties them to the rules.
 use Rattle.std.specs.Prelude.{◌≡◌, ◌≢◌, ◌⊎◌, ℕ, ◌+◌, ◌<◌, ◌≤◌, List, [], Option, None, Some, take, length, slice_get}
 use Rattle.syn_term.specs.declared.sorts.Sort.TheVariants as sort
@@ -11,14 +11,14 @@ use Rattle.syn_term.specs.Bank.{Kept, Agree, Belongs}
 use Rattle.syn_app.specs.declared.trees.Form.TheVariants as form
 use Rattle.syn_app.specs.declared.trees.Out.TheVariants as out
 use Rattle.syn_app.specs.Trees.{FormTree, OutTree, SpecTree}
-use Rattle.syn_app.specs.declared.readings.TermReading.{TermReading}
-use Rattle.syn_app.specs.declared.readings.Row.{Row}
-use Rattle.syn_app.specs.declared.readings.Step.{Step}
-use Rattle.syn_app.specs.declared.readings.Step.TheVariants as step
-use Rattle.syn_app.specs.declared.readings.Entry.{Entry}
+use Rattle.syn_app.specs.declared.flat.FlatTerm.{FlatTerm}
+use Rattle.syn_app.specs.declared.flat.Row.{Row}
+use Rattle.syn_app.specs.declared.flat.Step.{Step}
+use Rattle.syn_app.specs.declared.flat.Step.TheVariants as step
+use Rattle.syn_app.specs.declared.flat.Entry.{Entry}
 use Rattle.syn_app.specs.declared.replay.CheckError.{CheckError}
 use Rattle.syn_app.specs.declared.replay.CheckError.TheVariants as error
-use Rattle.syn_app.specs.declared.readings.RowReading.{RowReading}
+use Rattle.syn_app.specs.declared.flat.FlatRow.{FlatRow}
 use Rattle.syn_app.specs.DerivationText.{row_tree}
 use Rattle.syn_app.specs.Rows.{bare_row, simplified_row}
 use Rattle.syn_app.specs.Replay.{row_at, simplified_rows}
@@ -47,14 +47,6 @@ HasShape t row = IsOpen t row ⊎ (row ≡ solved_goal t)
 abbrev pub StepGives : TermTree → List Row → Step → Row → Type 0
 StepGives t before step.Goal row = IsOpen t row
 StepGives t before (step.Reflex k) row = ((n : ℕ) × (row_at before k ≡ Some (open_goal t n))) × (row ≡ solved_goal t)
-
--- the term is the one that the output condition of the specification asks for
-pub record IsTarget (target : TermTree) (spec : SpecTree) : Type 0 where
-  pub reading : TermReading
-  pub closed : IsClosed reading.base
-  pub short : term_size reading ≤ 1199
-  pub is : target ≡ term_tree reading
-  pub condition : spec.ensures_form ≡ ensures_of reading
 
 -- the terms of a row belong to the bank
 abbrev pub FormBelongs : Kept → FormTree → Type 0
@@ -132,7 +124,7 @@ FirstUnshaped t entries (error.NotFollows n) = IsFirstUnshaped t entries n
 FirstUnshaped t entries error.NotFinal = ⊥
 FirstUnshaped t entries error.NoMemory = Unit {0}
 
--- the row of the reading, simplified, where its step gives it from the rows before, and none where it doesn't
-abbrev pub IsNextRow : TermTree → List Row → RowReading → Option Row → Type 0
-IsNextRow t before reading None = ¬ (StepGives t before reading.step (simplified_row (row_tree reading)))
-IsNextRow t before reading (Some row) = StepGives t before reading.step (simplified_row (row_tree reading)) × (bare_row row ≡ simplified_row (row_tree reading))
+-- the row, simplified, where its step gives it from the rows before, and none where it doesn't
+abbrev pub IsNextRow : TermTree → List Row → FlatRow → Option Row → Type 0
+IsNextRow t before flat None = ¬ (StepGives t before flat.step (simplified_row (row_tree flat)))
+IsNextRow t before flat (Some row) = StepGives t before flat.step (simplified_row (row_tree flat)) × (bare_row row ≡ simplified_row (row_tree flat))

@@ -1,4 +1,5 @@
-// What lines are read as, before trees are made of them: each reading takes no memory of its own.
+// Terms, formulas and rows as lines say them, before trees are made of them: flat data, which takes
+// no memory of its own.
 use crate::trees::{Form, Out};
 
 /// What stands in the innermost brackets of a term.
@@ -14,16 +15,16 @@ pub enum Base {
 
 /// A term: `s(..)` so many times round the base.
 #[derive(Clone, Copy, Debug)]
-pub struct TermReading {
+pub struct FlatTerm {
     pub successors: u32,
     pub base: Base,
 }
 
 /// A formula: `true`, or an equality.
 #[derive(Clone, Copy, Debug)]
-pub enum FormReading {
+pub enum FlatForm {
     True,
-    Equal(TermReading, TermReading),
+    Equal(FlatTerm, FlatTerm),
 }
 
 /// By what a row follows: it is the goal of the specification, or the sides of the equality that is
@@ -37,10 +38,10 @@ pub enum Step {
 
 /// A row of a derivation, as its line is read.
 #[derive(Clone, Copy, Debug)]
-pub struct RowReading {
+pub struct FlatRow {
     pub step: Step,
-    pub form: FormReading,
-    pub out: TermReading,
+    pub form: FlatForm,
+    pub out: FlatTerm,
 }
 
 /// A row of a tableau. Each row so far is a goal with an output entry.

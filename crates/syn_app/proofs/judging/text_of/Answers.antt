@@ -1,5 +1,5 @@
-use Rattle.syn_app.specs.Printing.{nat_program}
-use Rattle.syn_app.proofs.stages.text_of.Goals as goal
+use Rattle.syn_app.specs.inner.Printing.{nat_program}
+use Rattle.syn_app.proofs.judging.text_of.Goals as goal
 
 pub returns-in-Ok-print : goal.returns-in-Ok-print
 returns-in-Ok-print c =

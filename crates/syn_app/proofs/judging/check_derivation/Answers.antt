@@ -1,7 +1,7 @@
 use Rattle.std.proofs.Common.{subst, sym}
-use Rattle.syn_app.specs.Stages.{IsLoaded, Prints}
-use Rattle.syn_app.proofs.Staged.{ends_err, ends_write}
-use Rattle.syn_app.proofs.stages.derivation_stage.Goals as goal
+use Rattle.syn_app.specs.inner.Judging.{IsLoaded, Prints}
+use Rattle.syn_app.proofs.Judged.{ends_err, ends_write}
+use Rattle.syn_app.proofs.judging.check_derivation.Goals as goal
 
 pub returns-in-Err-judge_derivation-clause-status : goal.returns-in-Err-judge_derivation-clause-status
 returns-in-Err-judge_derivation-clause-status g c =

@@ -1,4 +1,4 @@
--- What the printer's contracts cite beside the printed text: the program with one number as its input, and its symbols.
+-- For private contracts: what the printer's cite beside the printed text: the program with one number as its input, and its symbols.
 use Rattle.std.specs.Prelude.{ℕ, ◌+◌, List, [], ◌∷◌, ◌++◌, Option, None, Some, if◌then◌else◌, nat_lt}
 use Rattle.syn_term.specs.declared.sorts.Sort.TheVariants as sort
 use Rattle.syn_term.specs.declared.sorts.Sym.{Sym}
@@ -42,3 +42,8 @@ nat_program_symbols name input = record {
   syms = first_symbols.syms ++ nat_program_symbol name ∷ nat_input_symbol input ∷ [];
   sorts = first_symbols.sorts;
 }
+
+-- the name of a symbol, none where there is none
+abbrev pub name_of : Option Sym → List ℕ
+name_of None = []
+name_of (Some s) = s.name

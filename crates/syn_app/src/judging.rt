@@ -1,22 +1,22 @@
-// The stages of a check, in the order of the work: a file read whole, its text judged, and at the
+// The parts of a check, in the order of the work: a file read whole, its text judged, and at the
 // end the program's text put into the sink.
 ghost use Rattle.std.specs.Prelude.{◌≡◌, ◌≤◌, map, IfOk, IfErr, MatchResult, string_bytes};
 ghost use Rattle.syn_outside.specs.Files.{Told};
 ghost use Rattle.syn_app.specs.ProgramText.{printed_program};
 ghost use Rattle.syn_app.specs.Trees.{TheoryTree};
-ghost use Rattle.syn_app.specs.Checks.{reading_names};
+ghost use Rattle.syn_app.specs.inner.Checks.{flat_names};
 ghost use Rattle.syn_app.specs.Comes.{GoodTheory, IsRefusal, TellsPuts, TellsReads};
 ghost use Rattle.syn_app.specs.DerivationText.{entry_of};
-ghost use Rattle.syn_app.specs.Printing.{nat_program, nat_program_symbols};
+ghost use Rattle.syn_app.specs.inner.Printing.{nat_program, nat_program_symbols};
 ghost use Rattle.syn_app.specs.SpecText.{AreProgramNames, IsCondition};
-ghost use Rattle.syn_app.specs.Stages.{DerivationEnds, DerivationFails, EntriesFail, Holds, IsLoaded, IsSpecRead, LoadFails, Prints, PrintsEntries, SpecFails, TheoryEnds, TheoryFails, WriteEnds};
+ghost use Rattle.syn_app.specs.inner.Judging.{DerivationEnds, DerivationFails, EntriesFail, IsTheory, IsLoaded, IsSpecRead, LoadFails, Prints, PrintsEntries, SpecFails, TheoryEnds, TheoryFails, WriteEnds};
 
 use crate::check::{check, symbols_of};
 use crate::derivation_text::read_derivation;
+use crate::flat::FlatRow;
 use crate::printing::print_program;
-use crate::readings::RowReading;
 use crate::replay::CheckError;
-use crate::spec_text::{SpecReading, read_spec};
+use crate::spec_text::{FlatSpec, read_spec};
 use crate::status::{Status, Which};
 use crate::theory_text::read_theory;
 use std::alloc::Global;
@@ -50,7 +50,7 @@ pub(crate) fn load<C: Cabinet>(
 
 /// Whether the bytes are the text of a theory.
 fn judge_theory(alloc: Global, bytes: &[u8]) -> Result<(), Status>
-    ensures { MatchResult result (λ _. Holds bytes.now) (TheoryFails bytes.now) }
+    ensures { MatchResult result (λ _. IsTheory bytes.now) (TheoryFails bytes.now) }
 {
     match read_theory(alloc, bytes) {
         Ok(_) => Ok(()),
@@ -60,7 +60,7 @@ fn judge_theory(alloc: Global, bytes: &[u8]) -> Result<(), Status>
 }
 
 /// The specification that the bytes are the text of.
-pub(crate) fn judge_spec(alloc: Global, bytes: &[u8]) -> Result<SpecReading<'_>, Status>
+pub(crate) fn judge_spec(alloc: Global, bytes: &[u8]) -> Result<FlatSpec<'_>, Status>
     ensures { MatchResult result (IsSpecRead bytes.now) (SpecFails bytes.now) }
 {
     match read_spec(alloc, bytes) {
@@ -74,7 +74,7 @@ pub(crate) fn judge_spec(alloc: Global, bytes: &[u8]) -> Result<SpecReading<'_>,
 fn print(
     alloc: Global,
     syms: &Symbols,
-    spec: &SpecReading<'_>,
+    spec: &FlatSpec<'_>,
     body: &Term,
 ) -> Result<String, NoMemory>
     requires { syms.now ≡ nat_program_symbols spec.now.program.now spec.now.input.now }
@@ -87,10 +87,10 @@ fn print(
 fn text_of(
     alloc: Global,
     syms: &Symbols,
-    spec: &SpecReading<'_>,
-    rows: &[RowReading],
+    spec: &FlatSpec<'_>,
+    rows: &[FlatRow],
 ) -> Result<String, Status>
-    requires names { AreProgramNames (reading_names spec.now) }
+    requires names { AreProgramNames (flat_names spec.now) }
     requires condition { IsCondition spec.now.term }
     requires symbols { syms.now ≡ nat_program_symbols spec.now.program.now spec.now.input.now }
     ensures { MatchResult result (λ text. PrintsEntries spec.now (map entry_of rows.now) (string_bytes text)) (EntriesFail spec.now (map entry_of rows.now)) }
@@ -107,8 +107,8 @@ fn text_of(
 }
 
 /// The text of the program of the derivation that the rows are.
-fn judge_rows(alloc: Global, spec: &SpecReading<'_>, rows: &[RowReading]) -> Result<String, Status>
-    requires names { AreProgramNames (reading_names spec.now) }
+fn judge_rows(alloc: Global, spec: &FlatSpec<'_>, rows: &[FlatRow]) -> Result<String, Status>
+    requires names { AreProgramNames (flat_names spec.now) }
     requires condition { IsCondition spec.now.term }
     ensures { MatchResult result (λ text. PrintsEntries spec.now (map entry_of rows.now) (string_bytes text)) (EntriesFail spec.now (map entry_of rows.now)) }
 {
@@ -121,10 +121,10 @@ fn judge_rows(alloc: Global, spec: &SpecReading<'_>, rows: &[RowReading]) -> Res
 /// The text of the program of the derivation that the bytes are the text of.
 pub(crate) fn judge_derivation(
     alloc: Global,
-    spec: &SpecReading<'_>,
+    spec: &FlatSpec<'_>,
     bytes: &[u8],
 ) -> Result<String, Status>
-    requires names { AreProgramNames (reading_names spec.now) }
+    requires names { AreProgramNames (flat_names spec.now) }
     requires condition { IsCondition spec.now.term }
     ensures { MatchResult result (λ text. Prints spec.now bytes.now (string_bytes text)) (DerivationFails spec.now bytes.now) }
 {
@@ -148,7 +148,7 @@ fn write<S: Sink>(out: &mut S, text: &str) -> Status
 }
 
 /// Reads the theory and judges its text.
-pub(crate) fn theory_stage<C: Cabinet>(alloc: Global, cab: &mut C, name: &str) -> Result<(), Status>
+pub(crate) fn check_theory<C: Cabinet>(alloc: Global, cab: &mut C, name: &str) -> Result<(), Status>
     ensures status { MatchResult result (λ _. Told GoodTheory (C.files cab.old) name.now) (TheoryEnds (C.read_faults cab.old) (C.read_faults cab.new) (C.files cab.old) name.now) }
     ensures files { C.files cab.new ≡ C.files cab.old }
     ensures later { C.read_faults cab.old ≤ C.read_faults cab.new }
@@ -161,14 +161,14 @@ pub(crate) fn theory_stage<C: Cabinet>(alloc: Global, cab: &mut C, name: &str) -
 }
 
 /// Reads the derivation, judges its text and its rows, and writes the program.
-pub(crate) fn derivation_stage<C: Cabinet, S: Sink>(
+pub(crate) fn check_derivation<C: Cabinet, S: Sink>(
     alloc: Global,
     name: &str,
-    spec: &SpecReading<'_>,
+    spec: &FlatSpec<'_>,
     cab: &mut C,
     out: &mut S,
 ) -> Status
-    requires names { AreProgramNames (reading_names spec.now) }
+    requires names { AreProgramNames (flat_names spec.now) }
     requires condition { IsCondition spec.now.term }
     ensures status { DerivationEnds spec.now (C.read_faults cab.old) (C.read_faults cab.new) (C.files cab.old) name.now (S.text out.old) (S.text out.new) (S.faults out.old) (S.faults out.new) result }
     ensures before { IsRefusal result → S.text out.new ≡ S.text out.old }
