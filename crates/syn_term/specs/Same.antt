@@ -15,6 +15,6 @@ same_code _ _ = false
 unfoldable pub same_tree : TermTree → TermTree → Bool
 same_tree t u = same_code (the_row.coded.code (bare t)) (the_row.coded.code (bare u))
 
--- The truth value says it: two terms are one tree exactly where they are equal with their places left out.
-abbrev pub SameTreeMeansEqual : Type 0
-SameTreeMeansEqual = (t u : TermTree) → IsTrue (same_tree t u) ↔ (bare t ≡ bare u)
+-- two terms are one tree exactly where they are equal with places left out
+abbrev pub TellsTerms : Type 0
+TellsTerms = (t u : TermTree) → IsTrue (same_tree t u) ↔ (bare t ≡ bare u)

@@ -4,7 +4,7 @@ ghost use Rattle.std.specs.Prelude.{◌≡◌, ◌↔◌, ◌+◌, ◌<◌, max,
 ghost use Rattle.std.specs.Option.{option_copied};
 ghost use Rattle.syn_term.specs.Bank.{Agree};
 ghost use Rattle.syn_term.specs.Positions.{subterm_at};
-ghost use Rattle.syn_term.specs.Same.{SameTreeMeansEqual};
+ghost use Rattle.syn_term.specs.Same.{TellsTerms};
 ghost use Rattle.syn_term.specs.Terms.{bare, child, depth_of, head_of, nodes, sort_of};
 
 use crate::pointer::Shared;
@@ -158,7 +158,7 @@ impl Shared<Node> {
     pub fn same(&self, other: &Term) -> bool
         requires { Agree self.now other.now }
         ensures tree { IsTrue result ↔ (bare self.now ≡ bare other.now) }
-        ensures law { SameTreeMeansEqual }
+        ensures law { TellsTerms }
     {
         self.equals(other)
     }
