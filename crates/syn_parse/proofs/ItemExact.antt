@@ -35,16 +35,6 @@ all_not_nat C c (l ∷ ls) h = All-cons NotNat l ls (at l (All-head C l ls h)) (
     at (lexeme.Name x) d = λ e. c x d mark.Nat (ap name_word (sym e))
     at _ d = tt
 
--- words of a reading are read to its items alone
-pub form_items : (ls : List Lexeme) (is : List Item) (w : FormText) → Some is ≡ option_and_then items_of (phrases_of ls) → WrittenForm w → ls ≡ words_of_form w → is ≡ items_of_form w
-form_items ls is w e h same = let one : Some is ≡ Some (items_of_form w) = e ∙ (ap (λ (z : List Lexeme). option_and_then items_of (phrases_of z)) same ∙ complete_form w h) in cc
-
-pub out_items : (ls : List Lexeme) (is : List Item) (w : OutText) → Some is ≡ option_and_then items_of (phrases_of ls) → WrittenOut w → ls ≡ words_of_out w → is ≡ items_of_out w
-out_items ls is w e h same = let one : Some is ≡ Some (items_of_out w) = e ∙ (ap (λ (z : List Lexeme). option_and_then items_of (phrases_of z)) same ∙ complete_out w h) in cc
-
-pub term_items : (ls : List Lexeme) (is : List Item) (t : TermSyntax) → Some is ≡ option_and_then items_of (phrases_of ls) → Written t → ls ≡ words_of_term t → is ≡ item.Term t ∷ []
-term_items ls is t e h same = let one : Some is ≡ Some (item.Term t ∷ []) = e ∙ (ap (λ (z : List Lexeme). option_and_then items_of (phrases_of z)) same ∙ complete_term t h) in cc
-
 -- items of a reading have its words
 pub form_words : (ls : List Lexeme) (is : List Item) (w : FormText) → words_of_items is ≡ ls → is ≡ items_of_form w → ls ≡ words_of_form w
 form_words ls is w e same = sym e ∙ (ap words_of_items same ∙ words_of_items-form w)
@@ -54,19 +44,3 @@ out_words ls is w e same = sym e ∙ (ap words_of_items same ∙ words_of_items-
 
 pub term_words : (ls : List Lexeme) (is : List Item) (t : TermSyntax) → words_of_items is ≡ ls → is ≡ item.Term t ∷ [] → ls ≡ words_of_term t
 term_words ls is t e same = sym e ∙ (ap words_of_items same ∙ words_of_items-term t)
-
-module _ (ls : List Lexeme) (h : All NotNat ls) where
-  -- formulas
-  pub exact_items : (o : Option (List Item)) → o ≡ option_and_then items_of (phrases_of ls) → MatchOption o ((w : FormText) → WrittenForm w → ls ≡ words_of_form w → ⊥) (λ is. words_of_items is ≡ ls)
-  exact_items None e = λ w written same. let n : None ≡ Some (items_of_form w) = e ∙ (ap (λ (z : List Lexeme). option_and_then items_of (phrases_of z)) same ∙ complete_form w written) in absurd (cc)
-  exact_items (Some is) e = words_sound ls is h (sym e)
-
-  -- outputs
-  pub exact_out_items : (o : Option (List Item)) → o ≡ option_and_then items_of (phrases_of ls) → MatchOption o ((w : OutText) → WrittenOut w → ls ≡ words_of_out w → ⊥) (λ is. words_of_items is ≡ ls)
-  exact_out_items None e = λ w written same. let n : None ≡ Some (items_of_out w) = e ∙ (ap (λ (z : List Lexeme). option_and_then items_of (phrases_of z)) same ∙ complete_out w written) in absurd (cc)
-  exact_out_items (Some is) e = words_sound ls is h (sym e)
-
-  -- terms
-  pub exact_term_items : (o : Option (List Item)) → o ≡ option_and_then items_of (phrases_of ls) → MatchOption o ((t : TermSyntax) → Written t → ls ≡ words_of_term t → ⊥) (λ is. words_of_items is ≡ ls)
-  exact_term_items None e = λ t written same. let n : None ≡ Some (item.Term t ∷ []) = e ∙ (ap (λ (z : List Lexeme). option_and_then items_of (phrases_of z)) same ∙ complete_term t written) in absurd (cc)
-  exact_term_items (Some is) e = words_sound ls is h (sym e)

@@ -103,7 +103,6 @@ sort_at s false d = refl
 sort_back : (b : BinderSyntax) → sort_of (sort_lexeme b) ≡ Some b.sort
 sort_back b = sort_at b.sort (bytes_eq b.sort (codes "nat")) (bytes_eq-Decides b.sort (codes "nat"))
 
-
 module _ (done : List Phrase) (q : Quantifier) where
   binder_runs : (bs : List BinderSyntax) (b : BinderSyntax) → run (words_of_binder b) (holds done q bs stage.Name) ≡ Some (holds done q (bs ++ b ∷ []) stage.Next)
   binder_runs bs b = ap (λ (o : Option (List ℕ)). option_and_then (run []) (option_map (λ s. holds done q (with_binder bs b.name s) stage.Next) o)) (sort_back b)
