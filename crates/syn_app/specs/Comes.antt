@@ -12,7 +12,7 @@ use Rattle.syn_app.specs.declared.status.Status.{Status}
 use Rattle.syn_app.specs.declared.status.Status.TheVariants as status
 use Rattle.syn_app.specs.declared.status.Which.{Which}
 use Rattle.syn_app.specs.declared.status.Which.TheVariants as which
-use Rattle.syn_app.specs.Lines.{IsFirstBad}
+use Rattle.syn_lex.specs.TextLines.{IsFirstBad}
 use Rattle.syn_app.specs.Words.{IsCheck, IsNoCheck}
 use Rattle.syn_app.specs.TheoryText.{ExtendsTheory, IsTheoryText, WholeTheory}
 use Rattle.syn_app.specs.SpecText.{ExtendsSpec, HasInput, IsSpecText, WholeSpec}

@@ -12,7 +12,7 @@ ghost use Rattle.syn_app.specs.inner.Printing.{nat_input_symbol, nat_program, na
 ghost use Rattle.syn_app.specs.inner.Shapes.{solved_goal};
 ghost use Rattle.syn_app.specs.SpecText.{AreProgramNames, IsCondition};
 
-use crate::flat::{Row, FlatRow};
+use crate::flat::{FlatRow, Row};
 use crate::replay::{CheckError, replay};
 use crate::rows::term_of;
 use crate::spec_text::FlatSpec;
@@ -57,12 +57,7 @@ fn add(syms: &mut Symbols, sym: Sym) -> Result<(), NoMemory>
 }
 
 /// Adds the program symbol and the input to `0` and `s`.
-fn add_names(
-    alloc: Global,
-    syms: &mut Symbols,
-    program: &str,
-    input: &str,
-) -> Result<(), NoMemory>
+fn add_names(alloc: Global, syms: &mut Symbols, program: &str, input: &str) -> Result<(), NoMemory>
     requires first { syms.old ≡ first_symbols }
     requires program { IsName program.now }
     requires input { IsName input.now }

@@ -14,12 +14,13 @@ ghost use Rattle.syn_app.specs.Limits.{FitsForm, FitsRow, FitsTerm};
 ghost use Rattle.syn_app.specs.inner.Readers.{HasParts, HasTerms, IsFlatDerivation, IsTerm, Refuses, RefusesLines, row_text, with_form, with_step};
 ghost use Rattle.syn_app.specs.Terms.{term_text, term_tree};
 
-use crate::lines::{FileError, cut_lines, part_before, same, strip};
+use crate::flat::{FlatForm, FlatRow, FlatTerm, Step};
+use crate::lines::{part_before, same, strip};
 use crate::numbers::number_in;
-use crate::flat::{FlatForm, FlatRow, Step, FlatTerm};
 use crate::terms::{MOST_DEPTH, MOST_NODES, size_of, term_in};
 use itoa::Buffer;
 use std::alloc::Global;
+use syn_lex::{FileError, split_lines};
 use syn_term::NoMemory;
 
 fn term_before<'a>(text: &'a [u8], others: &[u8], input: &str) -> Option<(FlatTerm, &'a [u8])>
@@ -172,7 +173,7 @@ pub(crate) fn read_derivation(
     requires { IsName input.now }
     ensures { MatchResult result (λ rows. IsFlatDerivation input.now bytes.now rows.items) (Refuses (ExtendsDerivation input.now) WholeDerivation bytes.now) }
 {
-    let Ok(cut) = cut_lines(alloc, bytes) else {
+    let Ok(cut) = split_lines(alloc, bytes) else {
         return Err(FileError::NoMemory);
     };
     if !same(cut.line_at(0), b"derivation 1") {

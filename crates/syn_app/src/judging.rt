@@ -13,14 +13,14 @@ ghost use Rattle.syn_app.specs.inner.Judging.{DerivationEnds, DerivationFails, E
 
 use crate::check::{check, symbols_of};
 use crate::derivation_text::read_derivation;
-use crate::lines::FileError;
-use crate::printing::print_program;
 use crate::flat::FlatRow;
+use crate::printing::print_program;
 use crate::replay::CheckError;
 use crate::spec_text::{FlatSpec, read_spec};
 use crate::status::{Status, Which};
 use crate::theory_text::read_theory;
 use std::alloc::Global;
+use syn_lex::FileError;
 use syn_outside::{Cabinet, ReadError, Sink, WriteError, put_all, read_all};
 use syn_term::{NoMemory, Symbols, Term};
 

@@ -11,7 +11,7 @@ ghost use Rattle.syn_app.specs.Replay.{row_at, simplified_rows};
 ghost use Rattle.syn_app.specs.Rows.{bare_form, bare_row};
 ghost use Rattle.syn_app.specs.inner.Shapes.{AreShaped, FirstUnshaped, HasEquation, HasTexts, HaveShape, IsEquation, IsNextRow, IsOpen, RowAgrees, StepGives, row_variable, solved_goal};
 
-use crate::flat::{Row, FlatRow, Step};
+use crate::flat::{FlatRow, Row, Step};
 use crate::rows::{row_of, simplified};
 use crate::trees::{Form, Out};
 use sqlite_items::at;

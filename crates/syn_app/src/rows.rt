@@ -9,7 +9,7 @@ ghost use Rattle.syn_app.specs.Rows as rows;
 ghost use Rattle.syn_app.specs.Rows.{bare_form, bare_row, simplified_row};
 ghost use Rattle.syn_app.specs.inner.Shapes.{FormBelongs, HasTexts, IsLeaf, RowBelongs, SidesAgree};
 
-use crate::flat::{Base, FlatForm, Row, FlatRow, FlatTerm};
+use crate::flat::{Base, FlatForm, FlatRow, FlatTerm, Row};
 use crate::trees::{Form, Out};
 use std::alloc::Global;
 use syn_term::{Bank, NoMemory, Sort, SymId, Symbols, Term, Var};
@@ -119,12 +119,7 @@ pub(crate) fn term_of(
 
 /// The tree of a formula.
 #[tactic(auto, using(crate::proofs::Growth::growth))]
-fn form_of(
-    alloc: Global,
-    bank: &mut Bank,
-    syms: &Symbols,
-    flat: FlatForm,
-) -> Result<Form, NoMemory>
+fn form_of(alloc: Global, bank: &mut Bank, syms: &Symbols, flat: FlatForm) -> Result<Form, NoMemory>
     requires table { HasTexts syms.now }
     ensures tree { IfOk result (λ f. bare_form f ≡ form_tree flat) }
     ensures extends { Extends bank.old bank.new }

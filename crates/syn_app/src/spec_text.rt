@@ -5,16 +5,17 @@ ghost use Rattle.std.specs.Prelude.{◌≡◌, ◌≢◌, ◌↔◌, ◌<◌, �
 ghost use Rattle.syn_term.specs.Names.{IsName, is_name_byte};
 ghost use Rattle.syn_app.specs.declared.flat.FlatTerm.{FlatTerm};
 ghost use Rattle.syn_app.specs.Limits.{FitsForm};
-ghost use Rattle.syn_app.specs.Lines.{IsCut};
+ghost use Rattle.syn_lex.specs.TextLines.{IsCut};
 ghost use Rattle.syn_app.specs.inner.Readers.{IsFlatSpec, Refuses};
 ghost use Rattle.syn_app.specs.SpecText.{AreProgramNames, ExtendsSpec, IsCondition, ProgramNames, WholeSpec, ensures_line, ensures_of, program_line, spec_line};
 ghost use Rattle.syn_app.specs.Terms.{IsClosed};
 
-use crate::lines::{Cut, FileError, cut_lines, part_before, same, strip};
-use crate::numbers::name_in;
 use crate::flat::{Base, FlatTerm};
+use crate::lines::{part_before, same, strip};
+use crate::numbers::name_in;
 use crate::terms::{MOST_DEPTH, MOST_NODES, size_of, term_in};
 use std::alloc::Global;
+use syn_lex::{Cut, FileError, split_lines};
 use syn_term::NoMemory;
 
 /// A specification, as its text is read: the names are parts of the text.
@@ -170,7 +171,7 @@ fn spec_in<'a>(cut: &Cut<'a>) -> Result<FlatSpec<'a>, FileError>
 pub(crate) fn read_spec(alloc: Global, bytes: &[u8]) -> Result<FlatSpec<'_>, FileError>
     ensures { MatchResult result (λ s. IsFlatSpec bytes.now s.name.now (record { program = s.program.now; input = s.input.now; output = s.output.now }) s.term) (Refuses ExtendsSpec WholeSpec bytes.now) }
 {
-    match cut_lines(alloc, bytes) {
+    match split_lines(alloc, bytes) {
         Err(NoMemory) => Err(FileError::NoMemory),
         Ok(cut) => spec_in(&cut),
     }

@@ -10,9 +10,9 @@ ghost use Rattle.syn_app.specs.inner.Readers.{IsTerm};
 ghost use Rattle.syn_app.specs.Terms as terms;
 ghost use Rattle.syn_app.specs.Terms.{IsBase, base_text, term_text, term_tree, wrapped};
 
+use crate::flat::{Base, FlatTerm};
 use crate::lines::{same, strip};
 use crate::numbers::number_between;
-use crate::flat::{Base, FlatTerm};
 
 /// The nodes that an expression, or a row, may have.
 pub(crate) const MOST_NODES: u64 = 4096;

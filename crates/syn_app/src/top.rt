@@ -12,7 +12,7 @@ ghost use Rattle.syn_app.specs.Settled.{IsQuiet, Settles};
 ghost use Rattle.syn_app.specs.Words.{IsNoCheck};
 
 use crate::command::{Names, check_names};
-use crate::judging::{check_derivation, judge_spec, load, check_theory};
+use crate::judging::{check_derivation, check_theory, judge_spec, load};
 use crate::status::{Status, Which};
 use std::alloc::Global;
 use syn_outside::{Cabinet, Sink};

@@ -11,6 +11,7 @@ mod joins;
 mod numbers;
 mod output;
 mod plain;
+mod qform;
 mod quantified;
 mod replacing;
 mod signs;
