@@ -221,17 +221,31 @@ fn unmarked(alloc: Global, text: &str) -> Result<Vec<u8>, AllocError> {
 
 /// The part, unless it stands for the usual one.
 fn part<'a>(part: &'a [u8], usual: &'a [u8]) -> &'a [u8] {
-    if part == b"=" { usual } else { part }
+    match part {
+        [b'='] => usual,
+        _ => part,
+    }
+}
+
+/// The bytes before the first `;`, and those after it.
+fn halves(bytes: &[u8]) -> (&[u8], &[u8]) {
+    for (i, byte) in bytes.iter().enumerate() {
+        if *byte == b';' {
+            return (&bytes[..i], &bytes[i + 1..]);
+        }
+    }
+    (bytes, &[])
 }
 
 /// The three files that the bytes say.
 fn texts_in(bytes: &[u8]) -> Texts<'_> {
     let usual = identity();
-    let mut parts = bytes.split(|byte| *byte == b';');
+    let (theory, others) = halves(bytes);
+    let (spec, deriv) = halves(others);
     Texts {
-        theory: part(parts.next().unwrap_or(&[]), usual.theory),
-        spec: part(parts.next().unwrap_or(&[]), usual.spec),
-        deriv: part(parts.next().unwrap_or(&[]), usual.deriv),
+        theory: part(theory, usual.theory),
+        spec: part(spec, usual.spec),
+        deriv: part(deriv, usual.deriv),
     }
 }
 
