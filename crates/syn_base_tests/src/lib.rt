@@ -3,3 +3,9 @@
 //! answer comes.
 #![tactic(auto)]
 
+#[cfg(test)]
+mod codes;
+#[cfg(test)]
+mod formulas;
+#[cfg(test)]
+mod simplification;
