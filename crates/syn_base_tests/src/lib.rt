@@ -8,4 +8,10 @@ mod codes;
 #[cfg(test)]
 mod formulas;
 #[cfg(test)]
+mod lines;
+#[cfg(test)]
+mod outside;
+#[cfg(test)]
 mod simplification;
+#[cfg(test)]
+mod tokens;

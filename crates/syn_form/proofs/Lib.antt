@@ -31,3 +31,7 @@ pub mod FormedForms
 pub mod Cuts
 pub mod FreeNames
 pub mod PlainTrees
+pub mod ReplacingParts
+pub mod ReplacingCases
+pub mod ReplacingAll
+pub mod ReplacingEnds

@@ -15,4 +15,6 @@ pub mod Lists
 pub mod Quantified
 pub mod Elaboration
 pub mod Texts
+pub mod Replacing
+pub mod ReplacingLaws
 pub mod inner

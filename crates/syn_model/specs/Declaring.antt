@@ -1,4 +1,4 @@
--- Which declaration may follow which others: what a theory is.
+-- For public contracts: which declaration may follow which others: what a theory is.
 use Rattle.std.specs.Prelude.{◌≡◌, ◌≢◌, ℕ, ◌≤◌, ◌-◌, Bool, true, false, List, [], ◌∷◌, ◌++◌, Option, None, Some, All, Contains, length, position, slice_get}
 use Rattle.std.specs.List.{flat_map}
 use Rattle.std.specs.Option.{option_map}
@@ -23,17 +23,17 @@ use Rattle.syn_model.specs.declared.decl.Decl.TheVariants as decl
 use Rattle.syn_model.specs.declared.uses.Rest.{Rest}
 use Rattle.syn_model.specs.Clauses.{HasArguments, UsesForm, UsesOut, turn_of}
 use Rattle.syn_model.specs.Headings.{heading_of, is_whole}
-use Rattle.syn_model.specs.Parts.{MayBring}
+use Rattle.syn_model.specs.Theories.{MayBring}
 use Rattle.syn_model.specs.Tables.{IsDeclared, monos_of, other_names, table_of}
 
 -- no axiom and no monotonicity row has the name
 abbrev pub IsOtherwiseFree : List Decl → List ℕ → Type 0
 IsOtherwiseFree ds name = Contains (other_names ds) name → ⊥
 
--- a function or relation has a new name, and one argument or more
+-- a function or relation has a new name, and 1 to 64 arguments
 pub record AsksHead (ds : List Decl) (name : List ℕ) (args : List Sort) : Type 0 where
   pub free : IsOtherwiseFree ds name
-  pub some : 1 ≤ length args
+  pub few : (1 ≤ length args) × (length args ≤ 64)
 
 -- the variable is one of those numbered from 1 with these sorts
 abbrev pub IsNumberedIn : List Sort → Var → Type 0
@@ -101,7 +101,7 @@ pub record MayFunClause (ds : List Decl) (args : List TermTree) (body : OutTree)
   pub rest : Option Rest
   pub heading : (heading_of ds).declared ≡ Some (decl.Fun name sorts result)
   pub defined : symbol_of_name (table_of ds) name ≡ Some own
-  pub turn : turn_of (table_of ds) (heading_of ds).clauses args ≡ Some rest
+  pub turn : turn_of (table_of ds) (heading_of ds).arguments args ≡ Some rest
   pub arguments : HasArguments (table_of ds) sorts args
   pub plain : IsPlainOut (table_of ds) body
   pub sort : given_sort (table_of ds) body ≡ Some result
@@ -116,7 +116,7 @@ pub record MayRelClause (ds : List Decl) (args : List TermTree) (body : FormTree
   pub rest : Option Rest
   pub heading : (heading_of ds).declared ≡ Some (decl.Rel name sorts)
   pub defined : symbol_of_name (table_of ds) name ≡ Some own
-  pub turn : turn_of (table_of ds) (heading_of ds).clauses args ≡ Some rest
+  pub turn : turn_of (table_of ds) (heading_of ds).arguments args ≡ Some rest
   pub arguments : HasArguments (table_of ds) sorts args
   pub plain : IsPlainForm (table_of ds) body
   pub over : AreAmong (form_vars body) (flat_map term_vars args)

@@ -1,7 +1,7 @@
 // Whether a formula has free variables.
 ghost use Rattle.std.specs.Prelude.{◌≡◌, ◌↔◌, [], ◌∷◌, All, Contains, IsTrue};
 ghost use Rattle.syn_form.specs.Trees.{term_vars};
-ghost use Rattle.syn_model.specs.Closing.{bound_vars};
+ghost use Rattle.syn_model.specs.inner.Closing.{bound_vars};
 ghost use Rattle.syn_form.specs.Quantified.{free_vars};
 ghost use Rattle.syn_model.specs.Declaring.{AreAmong};
 
