@@ -4,7 +4,7 @@ use Rattle.std.specs.Prelude.{IfOk}
 use Rattle.std.specs.declared.result.Result.{Result}
 use Rattle.std.specs.declared.result.Result.TheVariants.{Ok, Err}
 use Rattle.std.specs.Option.{option_and_then, option_map, unwrap_or}
-use Rattle.std.proofs.lemmas.List.{map-set, take_all}
+use Rattle.std.proofs.lemmas.List.{length-take, map-set, take_all}
 use Rattle.std.proofs.lemmas.Bool.{cases_eq}
 use Rattle.syn_term.specs.declared.memory.NoMemory.{NoMemory}
 use Rattle.syn_term.specs.declared.sorts.Head.{Head}
@@ -61,10 +61,10 @@ map-with_nth {A} f xs (suc k) x y e = map-set f xs k x ∙ (ap (λ (z : A). set 
 
 -- one level
 
-args_of-App : (p : Place) (f : SymId) (xs : List Node) → args_of (view.App p f xs) ≡ xs
+pub args_of-App : (p : Place) (f : SymId) (xs : List Node) → args_of (view.App p f xs) ≡ xs
 args_of-App p f xs = search (rules, the_lemmas)
 
-args_of-Var : (p : Place) (v : Var) → args_of (node.Var p v) ≡ []
+pub args_of-Var : (p : Place) (v : Var) → args_of (node.Var p v) ≡ []
 args_of-Var p v = search (rules, the_lemmas)
 
 head_of-App : (p : Place) (f : SymId) (xs ys : List Node) → head_of (view.App p f xs) ≡ head_of (view.App p f ys)
@@ -252,3 +252,7 @@ made_on_path t [] new c a r some e same h = absurd (omega arith)
 made_on_path t (k ∷ ks) new c a r some e same h =
     let rest : take (length (k ∷ ks) - 1) (drop 1 (k ∷ ks)) ≡ ks = take_all (length (k ∷ ks) - 1) ks (omega arith) in
     made_level t k ks new c a r (sym e) (same ∙ ap (λ (way : List ℕ). bare (replaced_at way new c)) rest) h
+
+pub rest_shorter : (path : List ℕ) → 1 ≤ length path → length (take (length path - 1) (drop 1 path)) < length path
+rest_shorter [] some = absurd (omega arith)
+rest_shorter (k ∷ ks) some = omega (arith, length-take (length (k ∷ ks) - 1) ks)

@@ -136,6 +136,8 @@ impl Bank {
         path: &[u32],
         new: &Term,
     ) -> Result<Term, NoMemory>
+        requires t { Belongs self.old t.now }
+        requires new { Belongs self.old new.now }
         ensures tree { IfOk result (λ r. bare r ≡ bare (replaced_at path.now new.now t.now)) }
         ensures made { self.new.made ≤ self.old.made + length path.now }
         ensures extends { Extends self.old self.new }
@@ -155,13 +157,9 @@ impl Bank {
 
     /// The term with another k-th argument.
     #[tactic(auto, using(crate::proofs::Banks::banks))]
-    fn with_arg(
-        &mut self,
-        alloc: Global,
-        t: &Term,
-        k: u32,
-        child: Term,
-    ) -> Result<Term, NoMemory>
+    fn with_arg(&mut self, alloc: Global, t: &Term, k: u32, child: Term) -> Result<Term, NoMemory>
+        requires t { Belongs self.old t.now }
+        requires child { Belongs self.old child }
         ensures tree { IfOk result (λ r. bare r ≡ bare (with_child t.now k child)) }
         ensures made { self.new.made ≤ self.old.made + 1 }
         ensures extends { Extends self.old self.new }

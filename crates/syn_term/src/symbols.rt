@@ -180,7 +180,10 @@ fn enter_first(alloc: Global, by_name: &mut IndexMap<String, Sym>) -> Result<(),
 {
     let nat = Some(Sort::Nat);
     enter(by_name, make_sym(alloc, "0", Kind::Zero, &[], nat)?)?;
-    enter(by_name, make_sym(alloc, "s", Kind::Succ, &[Sort::Nat], nat)?)?;
+    enter(
+        by_name,
+        make_sym(alloc, "s", Kind::Succ, &[Sort::Nat], nat)?,
+    )?;
     Ok(())
 }
 

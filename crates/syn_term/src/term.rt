@@ -157,7 +157,7 @@ impl Shared<Node> {
     /// Whether the two are one tree. It asks that they agree, as two terms of one bank do.
     pub fn same(&self, other: &Term) -> bool
         requires { Agree self.now other.now }
-        ensures same { IsTrue result ↔ (bare self.now ≡ bare other.now) }
+        ensures tree { IsTrue result ↔ (bare self.now ≡ bare other.now) }
         ensures law { SameTreeMeansEqual }
     {
         self.equals(other)

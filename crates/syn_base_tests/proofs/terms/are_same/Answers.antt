@@ -1,5 +1,5 @@
 use Rattle.syn_term.specs.Bank.{Agree-belongs, Belongs-extends}
-use Rattle.syn_tests.proofs.terms.are_same.Goals as goal
+use Rattle.syn_base_tests.proofs.terms.are_same.Goals as goal
 
 pub same-requires : goal.same-requires
 same-requires c =
