@@ -104,12 +104,7 @@ impl Pair {
     }
 
     /// Takes the last `count` formulas.
-    fn take(
-        &self,
-        alloc: Global,
-        forms: &mut Items<Form>,
-        count: u8,
-    ) -> Result<Items<Form>, Fail>
+    fn take(&self, alloc: Global, forms: &mut Items<Form>, count: u8) -> Result<Items<Form>, Fail>
         requires { All (IsOver self.now) forms.old }
         ensures taken { IfOk result (All (IsOver self.now)) }
         ensures forms { OnOk result (All (IsOver self.now) forms.new) }

@@ -208,7 +208,10 @@ fn out_measure(o: &Out, cap: u32) -> (u64, u64) {
 
 #[test]
 fn measures_outputs(rt: HostRuntime) -> Result<(), Fail> {
-    let o = choice(rt.alloc(), &variable(rt.alloc(), &mut Bank::new(rt.alloc()), 1)?)?;
+    let o = choice(
+        rt.alloc(),
+        &variable(rt.alloc(), &mut Bank::new(rt.alloc()), 1)?,
+    )?;
     assert_eq!(rt; out_measure(&o, 0), (1, 1));
     assert_eq!(rt; out_measure(&o, 1), (2, 2));
     assert_eq!(rt; out_measure(&o, 2), (3, 2));
