@@ -89,11 +89,7 @@ fn files(alloc: Global, texts: Texts<'_>) -> Result<Vec<(String, Vec<u8>)>, Allo
 /// A cabinet of the files `empty`, `same` and `d1`.
 fn cabinet(alloc: Global, texts: Texts<'_>, outside: Outside) -> Result<MemCabinet, AllocError> {
     let fail = Vec::from_slice(alloc, &[outside.read])?;
-    Ok(MemCabinet::new(
-        files(alloc, texts)?,
-        outside.step.max(1),
-        fail,
-    ))
+    Ok(MemCabinet::new(files(alloc, texts)?, outside.step.max(1), fail))
 }
 
 fn sink(alloc: Global, outside: Outside) -> Result<MemSink, AllocError> {
