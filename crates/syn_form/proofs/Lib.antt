@@ -37,3 +37,5 @@ pub mod ReplacingParts
 pub mod ReplacingCases
 pub mod ReplacingAll
 pub mod ReplacingEnds
+pub mod InputTerms
+pub mod MadeTerms

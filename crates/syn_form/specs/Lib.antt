@@ -21,3 +21,4 @@ pub mod Heads
 pub mod Numbers
 pub mod Replacing
 pub mod ReplacingLaws
+pub mod Inputs

@@ -7,6 +7,7 @@
 mod binders;
 mod form;
 mod formed;
+mod inputs;
 mod joins;
 mod numbers;
 mod output;
