@@ -39,3 +39,5 @@ pub mod ReplacingAll
 pub mod ReplacingEnds
 pub mod InputTerms
 pub mod MadeTerms
+pub mod OnTerms
+pub mod PutInputs

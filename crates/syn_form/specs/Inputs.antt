@@ -1,5 +1,5 @@
 -- Terms and formulas with terms in place of input symbols.
-use Rattle.std.specs.Prelude.{◌≡◌, List, [], ◌∷◌, All, map, nat_eq, Option, None, Some, if◌then◌else◌}
+use Rattle.std.specs.Prelude.{◌≡◌, ℕ, sum, List, [], ◌∷◌, All, map, nat_eq, Option, None, Some, if◌then◌else◌}
 use Rattle.std.specs.Option.{unwrap_or}
 use Rattle.syn_term.specs.Bank.{Kept, Belongs}
 use Rattle.syn_term.specs.declared.sorts.Sym.{Sym}
@@ -8,12 +8,12 @@ use Rattle.syn_term.specs.declared.sorts.Kind.TheVariants as kind
 use Rattle.syn_term.specs.declared.term.Node.{Node, fold-Node}
 use Rattle.syn_term.specs.declared.term.Node.TheOpen.{Node-F}
 use Rattle.syn_term.specs.Symbols.{SymbolTable, symbol_at}
-use Rattle.syn_term.specs.Terms.{TermTree, variable_tree, application, sort_of}
+use Rattle.syn_term.specs.Terms.{TermTree, variable_tree, application, nodes, sort_of}
 use Rattle.syn_form.specs.declared.trees.Form.{Form, fold-Form}
 use Rattle.syn_form.specs.declared.trees.Form.TheOpen.{Form-F}
 use Rattle.syn_form.specs.declared.trees.Form.TheVariants as form
 use Rattle.syn_form.specs.declared.trees.Form.TheViews as view
-use Rattle.syn_form.specs.Trees.{FormTree}
+use Rattle.syn_form.specs.Trees.{FormTree, form_terms}
 
 -- some symbols, each with the term that takes its place
 abbrev pub Inputs : Type 0
@@ -49,6 +49,10 @@ with_inputs_step inputs (Node-F.App place f args) = input_term inputs f args
 -- the term with each listed symbol replaced, everywhere at once
 abbrev pub with_inputs : Inputs → TermTree → TermTree
 with_inputs inputs = fold-Node Node (with_inputs_step inputs)
+
+-- the number of nodes of the terms of a formula
+abbrev pub terms_size : FormTree → ℕ
+terms_size f = sum (map nodes (form_terms f))
 
 abbrev pub on_terms_step : (TermTree → TermTree) → Form-F Form → Form
 on_terms_step g Form-F.True = form.True

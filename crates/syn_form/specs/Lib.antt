@@ -22,3 +22,4 @@ pub mod Numbers
 pub mod Replacing
 pub mod ReplacingLaws
 pub mod Inputs
+pub mod InputLaws

@@ -28,6 +28,7 @@ mod trees;
 mod vars;
 
 pub use formed::{is_formed_form, is_formed_out};
+pub use inputs::put_inputs;
 pub use plain::{is_plain_form, is_plain_out, is_plain_qform};
 pub use quantified::is_formed_qform;
 pub use replacing::replace_all;
