@@ -9,7 +9,7 @@ use Rattle.syn_app.specs.declared.spec_text.SpecReading.{SpecReading}
 use Rattle.syn_app.specs.declared.status.Status.{Status}
 use Rattle.syn_app.specs.declared.status.Status.TheVariants as status
 use Rattle.syn_app.specs.declared.status.Which.TheVariants as which
-use Rattle.syn_app.specs.Lines.{IsFirstBad}
+use Rattle.syn_lex.specs.TextLines.{IsFirstBad}
 use Rattle.syn_app.specs.SpecText.{ExtendsSpec, HasInput, IsSpecText, WholeSpec}
 use Rattle.syn_app.specs.DerivationText.{ExtendsDerivation, WholeDerivation}
 use Rattle.syn_app.specs.Replay.{IsFirstToFail, IsUnfinished}

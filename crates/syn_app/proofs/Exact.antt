@@ -9,12 +9,12 @@ use Rattle.syn_app.specs.declared.readings.Entry.{Entry}
 use Rattle.syn_app.specs.declared.readings.RowReading.{RowReading}
 use Rattle.syn_app.specs.declared.readings.TermReading.{TermReading}
 use Rattle.syn_app.specs.DerivationText.{AreRows, ExtendsDerivation, IsDerivationText, WholeDerivation, entry_of, first_line, row_line, row_lines}
-use Rattle.syn_app.specs.Lines.{ExtendsAt, IsFirstBad, IsText}
+use Rattle.syn_lex.specs.TextLines.{ExtendsAt, IsFirstBad, IsText}
 use Rattle.syn_app.specs.Readers.{IsDerivationReading, IsSpecReading, row_text}
 use Rattle.syn_app.specs.SpecText.{ExtendsSpec, IsSpecText, ProgramNames, WholeSpec, ensures_line, program_line, spec_line, spec_of}
 use Rattle.syn_app.specs.Terms.{term_text}
 use Rattle.syn_app.specs.TheoryText.{ExtendsTheory, IsTheoryText, WholeTheory, theory_line}
-use Rattle.syn_app.proofs.Parts.{cut_once}
+use Rattle.syn_lex.proofs.OneCut.{cut_once}
 use Rattle.syn_app.proofs.RowTexts.{after_number_is, line_is, length_lines, row_once, row_parts, whole_extends}
 use Rattle.syn_app.proofs.SpecTexts.{program_once, three_lines}
 use Rattle.syn_app.proofs.TermTexts.{term_once}

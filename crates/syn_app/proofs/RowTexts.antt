@@ -5,8 +5,8 @@ use Rattle.std.proofs.lemmas.List.Elements.{All-cons, All-nil}
 use Rattle.std.proofs.lemmas.Fmt.{decimal_injective}
 use Rattle.syn_term.specs.Names.{IsName}
 use Rattle.syn_term.specs.Terms.{nodes}
-use Rattle.syn_app.specs.declared.lines.FileError.{FileError}
-use Rattle.syn_app.specs.declared.lines.FileError.TheVariants as error
+use Rattle.syn_lex.specs.declared.lines.FileError.{FileError}
+use Rattle.syn_lex.specs.declared.lines.FileError.TheVariants as error
 use Rattle.syn_app.specs.declared.readings.FormReading.{FormReading}
 use Rattle.syn_app.specs.declared.readings.FormReading.TheVariants as reading
 use Rattle.syn_app.specs.declared.readings.RowReading.{RowReading}
@@ -15,10 +15,11 @@ use Rattle.syn_app.specs.declared.readings.Step.TheVariants as step
 use Rattle.syn_app.specs.declared.readings.TermReading.{TermReading}
 use Rattle.syn_app.specs.DerivationText.{AreRows, ExtendsDerivation, WholeDerivation, IsDerivationText, IsForm, IsRow, IsStep, entry_of, first_line, form_tree, row_line, row_lines}
 use Rattle.syn_app.specs.Limits.{FitsForm}
-use Rattle.syn_app.specs.Lines.{ExtendsAt, IsCut, IsFirstBad, Without}
+use Rattle.syn_lex.specs.TextLines.{ExtendsAt, IsCut, IsFirstBad, Without}
 use Rattle.syn_app.specs.Readers.{HasParts, HasTerms, IsDerivationReading, IsFirstBadLine, IsTerm, Refuses, RefusesLines, row_text, with_form, with_step}
 use Rattle.syn_app.specs.Terms.{term_text, term_tree}
-use Rattle.syn_app.proofs.Parts.{cut_same, part_once}
+use Rattle.syn_app.proofs.Parts.{part_once}
+use Rattle.syn_lex.proofs.OneCut.{cut_same}
 use Rattle.syn_app.proofs.Closed.{nodes-term_tree}
 use Rattle.syn_app.proofs.TermTexts.{decimal_without, term_once, term_no_space}
 

@@ -5,7 +5,7 @@ use Rattle.syn_term.specs.Names.{IsName, is_name_byte}
 use Rattle.syn_term.proofs.NameLaws.{name_without}
 use Rattle.syn_term.specs.Terms.{nodes, depth_of}
 use Rattle.syn_app.specs.declared.readings.TermReading.{TermReading}
-use Rattle.syn_app.specs.Lines.{IsCut, IsFirstBad, Without}
+use Rattle.syn_lex.specs.TextLines.{IsCut, IsFirstBad, Without}
 use Rattle.syn_app.specs.Limits.{FitsForm}
 use Rattle.syn_app.specs.Readers.{IsSpecReading, IsTerm}
 use Rattle.syn_app.specs.SpecText.{ProgramNames, AreProgramNames, IsCondition, IsSpecText, ExtendsSpec, WholeSpec, spec_line, program_line, ensures_line, ensures_of, spec_of, output_variable}

@@ -14,7 +14,7 @@ use Rattle.syn_term.proofs.Trees.{fold-Var}
 use Rattle.syn_app.specs.declared.readings.Base.{Base}
 use Rattle.syn_app.specs.declared.readings.Base.TheVariants as base
 use Rattle.syn_app.specs.declared.readings.TermReading.{TermReading}
-use Rattle.syn_app.specs.Lines.{Without}
+use Rattle.syn_lex.specs.TextLines.{Without}
 use Rattle.syn_app.specs.Readers.{IsTerm}
 use Rattle.syn_app.specs.Terms.{wrapped, base_text, term_text, IsBase, base_size, term_size}
 

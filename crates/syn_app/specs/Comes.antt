@@ -12,7 +12,7 @@ use Rattle.syn_app.specs.declared.status.Status.{Status}
 use Rattle.syn_app.specs.declared.status.Status.TheVariants as status
 use Rattle.syn_app.specs.declared.status.Which.{Which}
 use Rattle.syn_app.specs.declared.status.Which.TheVariants as which
-use Rattle.syn_app.specs.Lines.{IsFirstBad}
+use Rattle.syn_lex.specs.TextLines.{IsFirstBad}
 use Rattle.syn_app.specs.Words.{IsCheck, IsNoCheck}
 use Rattle.syn_app.specs.TheoryText.{ExtendsTheory, IsTheoryText, WholeTheory}
 use Rattle.syn_app.specs.SpecText.{ExtendsSpec, HasInput, IsSpecText, WholeSpec}
@@ -137,6 +137,16 @@ IsRefusal status.Done = ⊥
 IsRefusal status.WriteFault = ⊥
 IsRefusal status.NoMemory = ⊥
 IsRefusal _ = Unit {0}
+
+-- no read failed by the outside's fault, unless the status tells one
+abbrev pub TellsReads : Status → ℕ → ℕ → Type 0
+TellsReads (status.ReadFault w) before now = Unit {0}
+TellsReads _ before now = now ≡ before
+
+-- no put did, unless the status tells one
+abbrev pub TellsPuts : Status → ℕ → ℕ → Type 0
+TellsPuts status.WriteFault before now = Unit {0}
+TellsPuts _ before now = now ≡ before
 
 -- the words fit, and P holds of the bytes of the first file; of the first two
 abbrev pub OfFirst : List (List ℕ) → Option (List File) → (List ℕ → Type 0) → Type 0

@@ -11,7 +11,8 @@ use Rattle.syn_app.specs.declared.readings.Step.TheVariants as step
 use Rattle.syn_app.specs.declared.readings.RowReading.{RowReading}
 use Rattle.syn_app.specs.declared.readings.Row.{Row}
 use Rattle.syn_app.specs.declared.readings.Entry.{Entry}
-use Rattle.syn_app.specs.Lines.{in_words, IsCut}
+use Rattle.syn_app.specs.Lines.{in_words}
+use Rattle.syn_lex.specs.TextLines.{IsCut}
 use Rattle.syn_app.specs.Limits.{FitsForm, FitsTerm, FitsRow}
 use Rattle.syn_app.specs.Terms.{term_text, term_tree, IsBase}
 

@@ -1,8 +1,8 @@
 -- What the readers of texts answer.
 use Rattle.std.specs.Prelude.{◌≡◌, ℕ, ◌+◌, ◌<◌, ◌≤◌, List, [], ◌∷◌, ◌++◌, codes, decimal, length}
 use Rattle.syn_term.specs.Names.{IsName}
-use Rattle.syn_app.specs.declared.lines.FileError.{FileError}
-use Rattle.syn_app.specs.declared.lines.FileError.TheVariants as error
+use Rattle.syn_lex.specs.declared.lines.FileError.{FileError}
+use Rattle.syn_lex.specs.declared.lines.FileError.TheVariants as error
 use Rattle.syn_app.specs.declared.readings.TermReading.{TermReading}
 use Rattle.syn_app.specs.declared.readings.FormReading.{FormReading}
 use Rattle.syn_app.specs.declared.readings.FormReading.TheVariants as reading
@@ -10,7 +10,7 @@ use Rattle.syn_app.specs.declared.readings.RowReading.{RowReading}
 use Rattle.syn_app.specs.declared.readings.Step.{Step}
 use Rattle.syn_app.specs.declared.readings.Step.TheVariants as step
 use Rattle.syn_app.specs.DerivationText.{AreRows, IsStep, first_line, row_lines}
-use Rattle.syn_app.specs.Lines.{ExtendsAt, IsCut, IsFirstBad}
+use Rattle.syn_lex.specs.TextLines.{ExtendsAt, IsCut, IsFirstBad}
 use Rattle.syn_app.specs.SpecText.{ProgramNames, AreProgramNames, IsCondition, spec_line, program_line, ensures_line}
 use Rattle.syn_app.specs.Terms.{IsBase, term_text}
 

@@ -8,7 +8,8 @@ use Rattle.syn_term.specs.Terms.{variable_tree}
 use Rattle.syn_app.specs.declared.trees.Form.TheVariants as form
 use Rattle.syn_app.specs.Trees.{Declared, FormTree, SpecTree}
 use Rattle.syn_app.specs.declared.readings.TermReading.{TermReading}
-use Rattle.syn_app.specs.Lines.{in_words, IsCut}
+use Rattle.syn_app.specs.Lines.{in_words}
+use Rattle.syn_lex.specs.TextLines.{IsCut}
 use Rattle.syn_app.specs.Limits.{FitsForm}
 use Rattle.syn_app.specs.Terms.{term_text, term_tree, IsBase, IsClosed}
 

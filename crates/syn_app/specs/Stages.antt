@@ -11,7 +11,7 @@ use Rattle.syn_app.specs.declared.status.Status.{Status}
 use Rattle.syn_app.specs.declared.status.Status.TheVariants as status
 use Rattle.syn_app.specs.declared.status.Which.{Which}
 use Rattle.syn_app.specs.declared.status.Which.TheVariants as which
-use Rattle.syn_app.specs.Lines.{IsFirstBad}
+use Rattle.syn_lex.specs.TextLines.{IsFirstBad}
 use Rattle.syn_app.specs.TheoryText.{ExtendsTheory, IsTheoryText, WholeTheory}
 use Rattle.syn_app.specs.SpecText.{ExtendsSpec, WholeSpec}
 use Rattle.syn_app.specs.DerivationText.{ExtendsDerivation, IsDerivationText, WholeDerivation}

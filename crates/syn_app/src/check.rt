@@ -2,7 +2,7 @@
 // are replayed, and the last one gives the program's body.
 ghost use Rattle.std.specs.Prelude.{◌≡◌, ◌≢◌, map, IfOk, OnOk, MatchOption, MatchResult};
 ghost use Rattle.syn_term.specs.Names.{IsName};
-ghost use Rattle.syn_term.specs.Symbols.{MayAdd, with_symbol};
+ghost use Rattle.syn_term.specs.Symbols.{MayAdd, first_symbols, with_symbol};
 ghost use Rattle.syn_term.specs.Terms.{TermTree};
 ghost use Rattle.syn_app.specs.Trees.{TheoryTree};
 ghost use Rattle.syn_app.specs.Checks.{EndsOtherwise, EndsWith, FailsCheck, IsProven, reading_names, reading_spec};
@@ -55,6 +55,18 @@ fn add(syms: &mut Symbols, sym: Sym) -> Result<(), NoMemory>
     }
 }
 
+/// Adds the program symbol and the input to `0` and `s`.
+fn add_names(alloc: Global, syms: &mut Symbols, program: &str, input: &str) -> Result<(), NoMemory>
+    requires first { syms.old ≡ first_symbols }
+    requires program { IsName program.now }
+    requires input { IsName input.now }
+    requires distinct { program.now ≢ input.now }
+    ensures { OnOk result (syms.new ≡ nat_program_symbols program.now input.now) }
+{
+    add(syms, program_symbol(alloc, program)?)?;
+    add(syms, input_symbol(alloc, input)?)
+}
+
 /// The symbols of a specification: `0`, `s`, the program symbol, the input.
 pub(crate) fn symbols_of(alloc: Global, program: &str, input: &str) -> Result<Symbols, NoMemory>
     requires program { IsName program.now }
@@ -63,16 +75,13 @@ pub(crate) fn symbols_of(alloc: Global, program: &str, input: &str) -> Result<Sy
     ensures { IfOk result (λ syms. syms ≡ nat_program_symbols program.now input.now) }
 {
     let mut syms = Symbols::new(alloc)?;
-    add(&mut syms, program_symbol(alloc, program)?)?;
-    add(&mut syms, input_symbol(alloc, input)?)?;
-    Ok(syms)
-}
-
-/// What an accepted derivation gives: the symbols, and the body of the program.
-#[derive(Drop)]
-pub(crate) struct Checked {
-    pub(crate) syms: Symbols,
-    pub(crate) body: Term,
+    match add_names(alloc, &mut syms, program, input) {
+        Ok(()) => Ok(syms),
+        Err(error) => {
+            drop(syms);
+            Err(error)
+        }
+    }
 }
 
 /// The output of the last row, where that row is `true`.
@@ -98,24 +107,27 @@ fn solved_output(row: Row) -> Option<Term>
     }
 }
 
-/// Checks the rows against the specification. The error says which row is the first that doesn't
-/// follow, or that the last one isn't final.
+/// Checks the rows against the specification, given its symbols, and answers the body of their
+/// program. The error says which row is the first that doesn't follow, or that the last one isn't
+/// final.
 pub(crate) fn check(
     alloc: Global,
+    syms: &Symbols,
     spec: &SpecReading<'_>,
     rows: &[RowReading],
-) -> Result<Checked, CheckError>
+) -> Result<Term, CheckError>
     requires names { AreProgramNames (reading_names spec.now) }
     requires condition { IsCondition spec.now.term }
-    ensures symbols { IfOk result (λ c. c.syms ≡ nat_program_symbols spec.now.program.now spec.now.input.now) }
-    ensures rows { MatchResult result (λ c. (theory : TheoryTree) → IsProven theory (reading_spec spec.now) (map entry_of rows.now) (nat_program spec.now.program.now spec.now.input.now c.body)) (FailsCheck (reading_spec spec.now) (map entry_of rows.now)) }
+    requires symbols { syms.now ≡ nat_program_symbols spec.now.program.now spec.now.input.now }
+    ensures { MatchResult result (λ body. (theory : TheoryTree) → IsProven theory (reading_spec spec.now) (map entry_of rows.now) (nat_program spec.now.program.now spec.now.input.now body)) (FailsCheck (reading_spec spec.now) (map entry_of rows.now)) }
 {
-    let mut bank = Bank::new();
-    let syms = symbols_of(alloc, spec.program, spec.input)?;
-    let target = term_of(alloc, &mut bank, &syms, spec.term)?;
-    let kept = replay(alloc, &mut bank, &syms, &target, rows)?;
-    match last_output(kept) {
-        None => Err(CheckError::NotFinal),
-        Some(body) => Ok(Checked { syms, body }),
+    let mut bank = Bank::new(alloc);
+    let target = term_of(alloc, &mut bank, syms, spec.term)?;
+    match replay(alloc, &mut bank, syms, &target, rows) {
+        Err(error) => Err(error),
+        Ok(kept) => match last_output(kept) {
+            None => Err(CheckError::NotFinal),
+            Some(body) => Ok(body),
+        },
     }
 }

@@ -14,12 +14,13 @@ ghost use Rattle.syn_app.specs.Limits.{FitsForm, FitsRow, FitsTerm};
 ghost use Rattle.syn_app.specs.Readers.{HasParts, HasTerms, IsDerivationReading, IsTerm, Refuses, RefusesLines, row_text, with_form, with_step};
 ghost use Rattle.syn_app.specs.Terms.{term_text, term_tree};
 
-use crate::lines::{FileError, cut_lines, part_before, same, strip};
+use crate::lines::{part_before, same, strip};
 use crate::numbers::number_in;
 use crate::readings::{FormReading, RowReading, Step, TermReading};
 use crate::terms::{MOST_DEPTH, MOST_NODES, size_of, term_in};
 use itoa::Buffer;
 use std::alloc::Global;
+use syn_lex::{FileError, cut_lines};
 use syn_term::NoMemory;
 
 fn term_before<'a>(text: &'a [u8], others: &[u8], input: &str) -> Option<(TermReading, &'a [u8])>

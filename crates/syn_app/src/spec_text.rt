@@ -1,19 +1,22 @@
 // The text of a specification, three lines, each read by what must stand before and after its names.
 // Since no name has a bracket, a colon or a space, the first such byte ends the name, and a line has
 // one reading at most; so the names of the second line are the ones that the third is read with.
-ghost use Rattle.std.specs.Prelude.{◌≡◌, ◌≢◌, ◌↔◌, ◌<◌, ◌++◌, ◌∷◌, List, ℕ, IsTrue, MatchOption, MatchResult, codes, false};
+ghost use Rattle.std.specs.Prelude.{◌≡◌, ◌≢◌, ◌↔◌, ◌<◌, ◌++◌, ◌∷◌, List, ℕ, IsTrue, MatchOption, MatchResult, codes, false, map};
 ghost use Rattle.syn_term.specs.Names.{IsName, is_name_byte};
 ghost use Rattle.syn_app.specs.declared.readings.TermReading.{TermReading};
 ghost use Rattle.syn_app.specs.Limits.{FitsForm};
+ghost use Rattle.syn_lex.specs.TextLines.{IsCut};
 ghost use Rattle.syn_app.specs.Readers.{IsSpecReading, Refuses};
 ghost use Rattle.syn_app.specs.SpecText.{AreProgramNames, ExtendsSpec, IsCondition, ProgramNames, WholeSpec, ensures_line, ensures_of, program_line, spec_line};
 ghost use Rattle.syn_app.specs.Terms.{IsClosed};
 
-use crate::lines::{FileError, cut_lines, part_before, same, strip};
+use crate::lines::{part_before, same, strip};
 use crate::numbers::name_in;
 use crate::readings::{Base, TermReading};
 use crate::terms::{MOST_DEPTH, MOST_NODES, size_of, term_in};
 use std::alloc::Global;
+use syn_lex::{Cut, FileError, cut_lines};
+use syn_term::NoMemory;
 
 /// A specification, as its text is read: the names are parts of the text.
 #[derive(Clone, Copy, Debug)]
@@ -139,13 +142,10 @@ fn condition_of(line: &[u8], header: &Header<'_>) -> Option<TermReading>
     }
 }
 
-/// The specification that the bytes are the text of, or the number of the first bad line.
-pub(crate) fn read_spec(alloc: Global, bytes: &[u8]) -> Result<SpecReading<'_>, FileError>
-    ensures { MatchResult result (λ s. IsSpecReading bytes.now s.name.now (record { program = s.program.now; input = s.input.now; output = s.output.now }) s.term) (Refuses ExtendsSpec WholeSpec bytes.now) }
+// The specification that the cut is one of, or the number of the first bad line.
+fn spec_in<'a>(cut: &Cut<'a>) -> Result<SpecReading<'a>, FileError>
+    ensures { (bytes : List ℕ) → IsCut bytes (map (λ line. line.now) cut.now.lines.items) cut.now.rest.now → MatchResult result (λ s. IsSpecReading bytes s.name.now (record { program = s.program.now; input = s.input.now; output = s.output.now }) s.term) (Refuses ExtendsSpec WholeSpec bytes) }
 {
-    let Ok(cut) = cut_lines(alloc, bytes) else {
-        return Err(FileError::NoMemory);
-    };
     let Some(name) = spec_name(cut.line_at(0)) else {
         return Err(FileError::Bad(1));
     };
@@ -165,4 +165,14 @@ pub(crate) fn read_spec(alloc: Global, bytes: &[u8]) -> Result<SpecReading<'_>, 
         output: header.output,
         term,
     })
+}
+
+/// The specification that the bytes are the text of, or the number of the first bad line.
+pub(crate) fn read_spec(alloc: Global, bytes: &[u8]) -> Result<SpecReading<'_>, FileError>
+    ensures { MatchResult result (λ s. IsSpecReading bytes.now s.name.now (record { program = s.program.now; input = s.input.now; output = s.output.now }) s.term) (Refuses ExtendsSpec WholeSpec bytes.now) }
+{
+    match cut_lines(alloc, bytes) {
+        Err(NoMemory) => Err(FileError::NoMemory),
+        Ok(cut) => spec_in(&cut),
+    }
 }

@@ -5,15 +5,14 @@ ghost use Rattle.syn_outside.specs.Files.{Told};
 ghost use Rattle.syn_app.specs.ProgramText.{printed_program};
 ghost use Rattle.syn_app.specs.Trees.{TheoryTree};
 ghost use Rattle.syn_app.specs.Checks.{reading_names};
-ghost use Rattle.syn_app.specs.Comes.{GoodTheory, IsRefusal};
+ghost use Rattle.syn_app.specs.Comes.{GoodTheory, IsRefusal, TellsPuts, TellsReads};
 ghost use Rattle.syn_app.specs.DerivationText.{entry_of};
 ghost use Rattle.syn_app.specs.Printing.{nat_program, nat_program_symbols};
 ghost use Rattle.syn_app.specs.SpecText.{AreProgramNames, IsCondition};
 ghost use Rattle.syn_app.specs.Stages.{DerivationEnds, DerivationFails, EntriesFail, Holds, IsLoaded, IsSpecRead, LoadFails, Prints, PrintsEntries, SpecFails, TheoryEnds, TheoryFails, WriteEnds};
 
-use crate::check::{Checked, check};
+use crate::check::{check, symbols_of};
 use crate::derivation_text::read_derivation;
-use crate::lines::FileError;
 use crate::printing::print_program;
 use crate::readings::RowReading;
 use crate::replay::CheckError;
@@ -21,8 +20,9 @@ use crate::spec_text::{SpecReading, read_spec};
 use crate::status::{Status, Which};
 use crate::theory_text::read_theory;
 use std::alloc::Global;
+use syn_lex::FileError;
 use syn_outside::{Cabinet, ReadError, Sink, WriteError, put_all, read_all};
-use syn_term::NoMemory;
+use syn_term::{NoMemory, Symbols, Term};
 
 /// The most bytes that a file may have.
 const MOST_BYTES: u64 = 4_194_304;
@@ -38,6 +38,7 @@ pub(crate) fn load<C: Cabinet>(
     ensures status { IfErr result (LoadFails which (C.read_faults cab.old) (C.read_faults cab.new) (C.files cab.old) name.now) }
     ensures files { C.files cab.new ≡ C.files cab.old }
     ensures later { C.read_faults cab.old ≤ C.read_faults cab.new }
+    ensures tells { MatchResult result (λ _. C.read_faults cab.new ≡ C.read_faults cab.old) (λ e. TellsReads e (C.read_faults cab.old) (C.read_faults cab.new)) }
 {
     match read_all(alloc, cab, name, MOST_BYTES) {
         Ok(bytes) => Ok(bytes),
@@ -70,17 +71,39 @@ pub(crate) fn judge_spec(alloc: Global, bytes: &[u8]) -> Result<SpecReading<'_>,
 }
 
 /// The text of the program of an accepted derivation.
-fn print(alloc: Global, spec: &SpecReading<'_>, checked: &Checked) -> Result<String, NoMemory>
-    requires { checked.now.syms ≡ nat_program_symbols spec.now.program.now spec.now.input.now }
-    ensures { IfOk result (λ text. (theory : TheoryTree) → string_bytes text ≡ printed_program theory (nat_program spec.now.program.now spec.now.input.now checked.now.body)) }
+fn print(
+    alloc: Global,
+    syms: &Symbols,
+    spec: &SpecReading<'_>,
+    body: &Term,
+) -> Result<String, NoMemory>
+    requires { syms.now ≡ nat_program_symbols spec.now.program.now spec.now.input.now }
+    ensures { IfOk result (λ text. (theory : TheoryTree) → string_bytes text ≡ printed_program theory (nat_program spec.now.program.now spec.now.input.now body.now)) }
 {
-    print_program(
-        alloc,
-        &checked.syms,
-        spec.program,
-        spec.input,
-        &checked.body,
-    )
+    print_program(alloc, syms, spec.program, spec.input, body)
+}
+
+/// The text of the program of the derivation that the rows are, given the specification's symbols.
+fn text_of(
+    alloc: Global,
+    syms: &Symbols,
+    spec: &SpecReading<'_>,
+    rows: &[RowReading],
+) -> Result<String, Status>
+    requires names { AreProgramNames (reading_names spec.now) }
+    requires condition { IsCondition spec.now.term }
+    requires symbols { syms.now ≡ nat_program_symbols spec.now.program.now spec.now.input.now }
+    ensures { MatchResult result (λ text. PrintsEntries spec.now (map entry_of rows.now) (string_bytes text)) (EntriesFail spec.now (map entry_of rows.now)) }
+{
+    match check(alloc, syms, spec, rows) {
+        Err(CheckError::NotFollows(row)) => Err(Status::NotFollows(row)),
+        Err(CheckError::NotFinal) => Err(Status::NotFinal),
+        Err(CheckError::NoMemory) => Err(Status::NoMemory),
+        Ok(body) => match print(alloc, syms, spec, &body) {
+            Ok(text) => Ok(text),
+            Err(NoMemory) => Err(Status::NoMemory),
+        },
+    }
 }
 
 /// The text of the program of the derivation that the rows are.
@@ -89,14 +112,9 @@ fn judge_rows(alloc: Global, spec: &SpecReading<'_>, rows: &[RowReading]) -> Res
     requires condition { IsCondition spec.now.term }
     ensures { MatchResult result (λ text. PrintsEntries spec.now (map entry_of rows.now) (string_bytes text)) (EntriesFail spec.now (map entry_of rows.now)) }
 {
-    match check(alloc, spec, rows) {
-        Err(CheckError::NotFollows(row)) => Err(Status::NotFollows(row)),
-        Err(CheckError::NotFinal) => Err(Status::NotFinal),
-        Err(CheckError::NoMemory) => Err(Status::NoMemory),
-        Ok(checked) => match print(alloc, spec, &checked) {
-            Ok(text) => Ok(text),
-            Err(NoMemory) => Err(Status::NoMemory),
-        },
+    match symbols_of(alloc, spec.program, spec.input) {
+        Err(NoMemory) => Err(Status::NoMemory),
+        Ok(syms) => text_of(alloc, &syms, spec, rows),
     }
 }
 
@@ -119,7 +137,8 @@ pub(crate) fn judge_derivation(
 
 /// Puts the text of a program into the sink.
 fn write<S: Sink>(out: &mut S, text: &str) -> Status
-    ensures { WriteEnds (S.text out.old) (S.text out.new) (S.faults out.old) (S.faults out.new) text.now result }
+    ensures ends { WriteEnds (S.text out.old) (S.text out.new) (S.faults out.old) (S.faults out.new) text.now result }
+    ensures tells { TellsPuts result (S.faults out.old) (S.faults out.new) }
 {
     match put_all(out, text.as_bytes()) {
         Ok(()) => Status::Done,
@@ -133,6 +152,7 @@ pub(crate) fn theory_stage<C: Cabinet>(alloc: Global, cab: &mut C, name: &str) -
     ensures status { MatchResult result (λ _. Told GoodTheory (C.files cab.old) name.now) (TheoryEnds (C.read_faults cab.old) (C.read_faults cab.new) (C.files cab.old) name.now) }
     ensures files { C.files cab.new ≡ C.files cab.old }
     ensures later { C.read_faults cab.old ≤ C.read_faults cab.new }
+    ensures tells { MatchResult result (λ _. C.read_faults cab.new ≡ C.read_faults cab.old) (λ e. TellsReads e (C.read_faults cab.old) (C.read_faults cab.new)) }
 {
     match load(alloc, cab, name, Which::Theory) {
         Err(status) => Err(status),
@@ -154,6 +174,8 @@ pub(crate) fn derivation_stage<C: Cabinet, S: Sink>(
     ensures before { IsRefusal result → S.text out.new ≡ S.text out.old }
     ensures files { C.files cab.new ≡ C.files cab.old }
     ensures later { C.read_faults cab.old ≤ C.read_faults cab.new }
+    ensures tells_reads { TellsReads result (C.read_faults cab.old) (C.read_faults cab.new) }
+    ensures tells_puts { TellsPuts result (S.faults out.old) (S.faults out.new) }
 {
     match load(alloc, cab, name, Which::Derivation) {
         Err(status) => status,

@@ -5,9 +5,10 @@ ghost use Rattle.syn_term.specs.Names.{IsName};
 ghost use Rattle.syn_app.specs.Readers.{Refuses};
 ghost use Rattle.syn_app.specs.TheoryText.{ExtendsTheory, IsTheoryText, WholeTheory, theory_line};
 
-use crate::lines::{FileError, cut_lines, strip};
+use crate::lines::strip;
 use crate::numbers::name_in;
 use std::alloc::Global;
+use syn_lex::{FileError, cut_lines};
 
 fn theory_name(line: &[u8]) -> Option<&str>
     ensures { MatchOption result ((name : List ℕ) → IsName name → ¬ (line.now ≡ theory_line name)) (λ name. IsName name.now × (line.now ≡ theory_line name.now)) }

@@ -5,7 +5,7 @@ ghost use Rattle.syn_outside.specs.Faults.{Rose};
 ghost use Rattle.syn_outside.specs.Files.{File};
 ghost use Rattle.syn_outside.specs.Texts.{Adds, AddsPrefix};
 ghost use Rattle.syn_app.specs.Trees.{ProgramTree};
-ghost use Rattle.syn_app.specs.Comes.{AreWords, Comes, ComesFor, FaultOf, FileNames, IsBadDerivation, IsBadSpec, IsBadTheory, IsRefusal, LengthOf, OfFiles, OfFirst, OfSecond, OfTexts, Writing};
+ghost use Rattle.syn_app.specs.Comes.{AreWords, Comes, ComesFor, FaultOf, FileNames, IsBadDerivation, IsBadSpec, IsBadTheory, IsRefusal, LengthOf, OfFiles, OfFirst, OfSecond, OfTexts, TellsPuts, TellsReads, Writing};
 ghost use Rattle.syn_app.specs.ProgramTexts.{IsProgramText};
 ghost use Rattle.syn_app.specs.Replay.{IsFirstToFail, IsUnfinished};
 ghost use Rattle.syn_app.specs.Settled.{IsQuiet, Settles};
@@ -27,6 +27,8 @@ fn check_files<C: Cabinet, S: Sink>(
     ensures comes { ComesFor (record { words = []; files = C.files cab.old; reads = C.read_faults cab.old; reads_after = C.read_faults cab.new; text = S.text out.old; text_after = S.text out.new; faults = S.faults out.old; faults_after = S.faults out.new }) (record { theory = names.entry.theory.now; spec = names.entry.spec.now; deriv = names.entry.deriv.now }) result }
     ensures before { IsRefusal result → S.text out.new ≡ S.text out.old }
     ensures files { C.files cab.new ≡ C.files cab.old }
+    ensures tells_reads { TellsReads result (C.read_faults cab.old) (C.read_faults cab.new) }
+    ensures tells_puts { TellsPuts result (S.faults out.old) (S.faults out.new) }
 {
     if let Err(status) = theory_stage(alloc, cab, names.theory) {
         return status;
@@ -45,6 +47,8 @@ fn run<C: Cabinet, S: Sink>(alloc: Global, words: &[String], cab: &mut C, out: &
     ensures comes { Comes (record { words = map string_bytes words.now; files = C.files cab.old; reads = C.read_faults cab.old; reads_after = C.read_faults cab.new; text = S.text out.old; text_after = S.text out.new; faults = S.faults out.old; faults_after = S.faults out.new }) result }
     ensures before { IsRefusal result → S.text out.new ≡ S.text out.old }
     ensures files { C.files cab.new ≡ C.files cab.old }
+    ensures tells_reads { TellsReads result (C.read_faults cab.old) (C.read_faults cab.new) }
+    ensures tells_puts { TellsPuts result (S.faults out.old) (S.faults out.new) }
 {
     match check_names(words) {
         None => Status::Words,
@@ -91,6 +95,12 @@ pub fn synth<C: Cabinet, S: Sink>(
     // for one at most.
     ensures exact { (fs : List File) (n : FileNames) (r : Status) → C.files cab.old ≡ Some fs → IsQuiet (C.read_faults cab.old) (C.read_faults cab.new) → IsQuiet (S.faults out.old) (S.faults out.new) → AreWords (map string_bytes words.now) n → Settles fs n r → (result ≡ r) ⊎ (result ≡ Status.NoMemory) }
     ensures one { (fs : List File) (n : FileNames) (r q : Status) → Settles fs n r → Settles fs n q → r ≡ q }
+
+    // A fault of the outside is told: the one count rises under ReadFault alone, the other under
+    // WriteFault alone. So want of memory is never the answer to a fault.
+    ensures tells_reads { TellsReads result (C.read_faults cab.old) (C.read_faults cab.new) }
+    ensures tells_puts { TellsPuts result (S.faults out.old) (S.faults out.new) }
+    ensures memory_quiet { result ≡ Status.NoMemory → (C.read_faults cab.new ≡ C.read_faults cab.old) × (S.faults out.new ≡ S.faults out.old) }
 
     // What stays: the files always; the sink's text after a refusal before the write. After a fault
     // or want of memory in the write some first bytes of the program's text were put.

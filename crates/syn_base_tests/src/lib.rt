@@ -3,3 +3,21 @@
 //! answer comes.
 #![tactic(auto)]
 
+#[cfg(test)]
+mod lines;
+#[cfg(test)]
+mod names;
+#[cfg(test)]
+mod outside;
+#[cfg(test)]
+mod positions;
+#[cfg(test)]
+mod sorts;
+#[cfg(test)]
+mod symbols;
+#[cfg(test)]
+mod terms;
+#[cfg(test)]
+mod tokens;
+#[cfg(test)]
+mod words;

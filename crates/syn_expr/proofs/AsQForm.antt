@@ -18,7 +18,7 @@ use Rattle.syn_form.specs.Lists.{all_there}
 use Rattle.syn_form.specs.Trees.{FormTree, QFormTree, all_of, bare_form}
 use Rattle.syn_form.specs.Plain.{IsFormed, PlainFormNode}
 use Rattle.syn_form.specs.PlainQuantified.{IsFormedQ, binders_of, binders_step}
-use Rattle.syn_form.specs.Quantified.{bare_qform, unquantified, unquantified_step}
+use Rattle.syn_form.specs.Quantified.{as_qform, as_qform_step, bare_qform, unquantified, unquantified_step}
 use Rattle.syn_form.specs.Scopes.{TextScope}
 use Rattle.syn_form.specs.Simplification.{conjunction, disjunction}
 use Rattle.syn_form.specs.Printing.{PrintedForm, implication_text, inner, joined, loose_text, print_form_step, print_qform_step, printing_of_form, printing_of_qform, tight_text}
@@ -28,7 +28,6 @@ use Rattle.syn_form.proofs.Induction.{by_forms}
 use Rattle.syn_form.proofs.Nodes.{node-Equal, node-chain, part-Not, parts-chain, parts-Implies}
 use Rattle.syn_form.proofs.QNodes.{every-True, every-False, every-Atom, every-Equal, every-Not, every-And, every-Or, every-Implies}
 use Rattle.syn_form.proofs.QForms.{qfold-True, qfold-False, qfold-Atom, qfold-Equal, qfold-Not, qfold-And, qfold-Or, qfold-Implies}
-use Rattle.syn_expr.proofs.TreeReadings.{as_qform, as_qform_step}
 use Rattle.syn_expr.proofs.Unquantifying.{unquantified_bare}
 
 -- what it is at each case

@@ -39,12 +39,12 @@ use Rattle.syn_form.proofs.Owned.{All-left, All-right}
 use Rattle.syn_expr.proofs.BackTerms.{name_not_reserved, sort_back, term_back, terms_back}
 use Rattle.syn_expr.proofs.FormMaking.{both, under}
 use Rattle.syn_expr.proofs.FormSyntaxes.{fold-And, fold-Atom, fold-Equal, fold-False, fold-Implies, fold-Not, fold-Or, fold-Quantified, fold-True}
-use Rattle.syn_form.specs.Numbers.{AreFrom}
+use Rattle.syn_form.specs.inner.BinderNumbers.{AreFrom}
 use Rattle.syn_form.proofs.Numbering.{numbers_split}
 use Rattle.syn_form.proofs.QForms.{by_qform_cases, qfold-All, qfold-And, qfold-Atom, qfold-Equal, qfold-Exists, qfold-False, qfold-Implies, qfold-Not, qfold-Or, qfold-True}
 use Rattle.syn_form.proofs.QNodes.{node-And, node-Atom, node-Equal, node-Or, part-All, part-Exists, part-Not, parts-And, parts-Implies, parts-Or}
 use Rattle.syn_expr.proofs.ReadSorts.{one_sort, sort_there}
-use Rattle.syn_form.proofs.Sorting.{makes_atom_bare, makes_atom_of, sort_bare}
+use Rattle.syn_form.proofs.Sorting.{makes_atom_bare, atom_decided, sort_bare}
 use Rattle.syn_expr.proofs.TreeReadings.{FormWritten, and_written, conj_on, disj_on, or_written, qform_written, qform_written_step, quantified_written, term_written}
 
 -- what a formula is printed from stands for the same as a whole and inside another
@@ -125,7 +125,7 @@ module _ (scope : TextScope) where
   atom_reads r (t ∷ ts) a s c =
       let args = t ∷ ts in
       let x = name_of (symbol_at scope.table r) in
-      let makes : makes_atom scope.table r (map bare args) ≡ true = makes_atom_bare scope.table r args ∙ makes_atom_of scope.table r args a in
+      let makes : makes_atom scope.table r (map bare args) ≡ true = makes_atom_bare scope.table r args ∙ (atom_decided scope.table r args).1 a in
       ap (option_and_then (λ us. option_and_then (sorted_atom scope.table us) (symbol_named scope.table x))) (terms_back scope args s c.2)
       ∙ (ap (option_and_then (sorted_atom scope.table (map bare args))) (relation_found r args a c.0)
       ∙ ap (λ (z : Bool). if z then Some (form.Atom r (map bare args)) else None) makes)

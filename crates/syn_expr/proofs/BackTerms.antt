@@ -34,7 +34,7 @@ use Rattle.syn_form.specs.Printing.{name_for, sort_text}
 use Rattle.syn_expr.specs.Readable.{CanReadNode, CanReadSort, CanReadSymbol, CanReadTerm, CanReadVarIn, IsNamed, IsUnshadowed, symbol_head}
 use Rattle.syn_form.specs.Scopes.{TextScope}
 use Rattle.syn_form.specs.Sorts.{makes_term}
-use Rattle.syn_form.proofs.Sorting.{makes_of, makes_bare}
+use Rattle.syn_form.proofs.Sorting.{application_decided, makes_bare}
 use Rattle.syn_form.proofs.TermNodes.{by_term_cases, node-App, node-Var, parts-App}
 use Rattle.syn_expr.proofs.TermSyntaxes.{fold-Alone, fold-Applied, fold-Number, fold-RowVar}
 use Rattle.syn_expr.proofs.TreeReadings.{Written, applied_written, kind_written, number_written, sort_written, successor_written, symbol_written, syntaxes_of, term_written, var_written, writing_of, written_step}
@@ -191,7 +191,7 @@ module _ (scope : TextScope) where
   symbol_stands : (f : SymId) (args : List TermTree) → IsApplication scope.table f args → CanReadSymbol scope f args → StandFor (map (writing_of scope) args) (map bare args) → StandsFor (symbol_written (symbol_at scope.table f) (map (writing_of scope) args)) (application f (map bare args))
   symbol_stands f args a c hs =
       let y = c.sym in
-      let makes : makes_term scope.table f (map bare args) ≡ true = makes_bare scope.table f args ∙ makes_of scope.table f args a in
+      let makes : makes_term scope.table f (map bare args) ≡ true = makes_bare scope.table f args ∙ (application_decided scope.table f args).1 a in
       let k = kind_stands f y.name y.kind (map (writing_of scope) args) (map bare args) hs c.found makes (unshadowed_bare (symbol_head y.kind y.name) args c.unshadowed) (zero_name y.kind y c.named) (succ_name y.kind y c.named) in
       subst (λ (z : Option Sym). StandsFor (symbol_written z (map (writing_of scope) args)) (application f (map bare args))) (sym c.is) k
 

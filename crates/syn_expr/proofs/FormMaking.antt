@@ -25,7 +25,7 @@ use Rattle.syn_form.specs.Trees.{QFormTree}
 use Rattle.syn_expr.specs.Elaborating.{bare_reading, binder_var}
 use Rattle.syn_expr.proofs.Options.{one_missing}
 use Rattle.syn_form.proofs.QForms.{qfold-All, qfold-Atom, qfold-Exists}
-use Rattle.syn_form.proofs.Sorting.{atom_of, makes_atom_of, makes_atom_bare}
+use Rattle.syn_form.proofs.Sorting.{atom_decided, makes_atom_bare}
 
 abbrev pub both : {A : Type 0} → A → ℕ → A × ℕ
 both a n = (a, n)
@@ -43,13 +43,13 @@ module _ (table : SymbolTable) (r : SymId) (args xs : List TermTree) (symbol : O
   -- the symbol makes no atom of the terms
   pub no_atom : b ≡ false → None ≡ option_and_then (sorted_atom table (map bare args)) symbol
   no_atom f =
-      let no : makes_atom table r args ≡ false = false_from_ne_true (makes_atom table r args) (λ e. true≢false (sym (test.1 (subst (λ (z : List TermTree). IsAtom table r z) (sym same) (atom_of table r args e))) ∙ f)) in
+      let no : makes_atom table r args ≡ false = false_from_ne_true (makes_atom table r args) (λ e. true≢false (sym (test.1 (subst (λ (z : List TermTree). IsAtom table r z) (sym same) ((atom_decided table r args).0 e))) ∙ f)) in
       sym (atom_at false (makes_atom_bare table r args ∙ no))
 
   -- the symbol makes one
   pub an_atom : (kept : List TermTree) → b ≡ true → kept ≡ args → Some (bare_qform (form.Atom r kept)) ≡ option_and_then (sorted_atom table (map bare args)) symbol
   an_atom kept t k =
-      let yes : makes_atom table r args ≡ true = makes_atom_of table r args (subst (λ (z : List TermTree). IsAtom table r z) same (test.0 t)) in
+      let yes : makes_atom table r args ≡ true = (atom_decided table r args).1 (subst (λ (z : List TermTree). IsAtom table r z) same (test.0 t)) in
       ap (λ (z : List TermTree). Some (bare_qform (form.Atom r z))) k ∙ (ap Some (qfold-Atom bare_qform_step r args) ∙ sym (atom_at true (makes_atom_bare table r args ∙ yes)))
 
 module _ (scope : TextScope) where

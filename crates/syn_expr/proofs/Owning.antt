@@ -8,13 +8,13 @@ use Rattle.syn_form.specs.declared.trees.Form.TheVariants as form
 use Rattle.syn_form.specs.declared.trees.Form.TheViews as view
 use Rattle.syn_form.specs.declared.trees.QForm.TheVariants as qform
 use Rattle.syn_form.specs.Lists.{all_there}
-use Rattle.syn_form.specs.Quantified.{unquantified, unquantified_step}
+use Rattle.syn_form.specs.Quantified.{qform_terms, qform_terms_step, unquantified, unquantified_step}
 use Rattle.syn_form.specs.Trees.{FormTree, QFormTree, all_of, form_terms}
 use Rattle.syn_form.proofs.Equations.{form_terms-True, form_terms-False, form_terms-Atom, form_terms-Equal, form_terms-Not, form_terms-And, form_terms-Or, form_terms-Implies}
 use Rattle.syn_form.proofs.QForms.{by_qform_cases, qfold-True, qfold-False, qfold-Atom, qfold-Equal, qfold-Not, qfold-And, qfold-Or, qfold-Implies, qfold-All, qfold-Exists}
 use Rattle.syn_expr.proofs.TermCounts.{step_there, value_there}
 use Rattle.syn_expr.proofs.FormMaking.{both}
-use Rattle.syn_expr.specs.Belonging.{FormBelongs, FormBelongs-extends, FormBelongs-from, OutBelongs-extends, OutBelongs-Give, OutBelongs-If, QFormBelongs-terms, qform_terms, qform_terms_step, QFormBelongs, QFormBelongs-extends, QFormBelongs-True, QFormBelongs-False, QFormBelongs-Atom, QFormBelongs-Equal, QFormBelongs-Not, QFormBelongs-And, QFormBelongs-Or, QFormBelongs-Implies, QFormBelongs-quantifier}
+use Rattle.syn_expr.specs.Belonging.{FormBelongs, FormBelongs-extends, FormBelongs-from, OutBelongs-extends, OutBelongs-Give, OutBelongs-If, QFormBelongs-terms, QFormBelongs, QFormBelongs-extends, QFormBelongs-True, QFormBelongs-False, QFormBelongs-Atom, QFormBelongs-Equal, QFormBelongs-Not, QFormBelongs-And, QFormBelongs-Or, QFormBelongs-Implies, QFormBelongs-quantifier}
 
 pub two_belong : (b : Kept) (f g : QFormTree) → QFormBelongs b f → QFormBelongs b g → All (QFormBelongs b) (f ∷ g ∷ [])
 two_belong b f g h k = All-cons (QFormBelongs b) f (g ∷ []) h (All-cons (QFormBelongs b) g [] k (All-nil (QFormBelongs b)))

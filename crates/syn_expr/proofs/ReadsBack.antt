@@ -15,7 +15,7 @@ use Rattle.syn_form.specs.Grammar.{OutText, choice, fixed, give, spelling, synta
 use Rattle.syn_form.specs.Plain.{HasOneSortEach, IsFormed, IsFormedOut, IsSorted, PlainOutNode, given_sort}
 use Rattle.syn_form.specs.PlainQuantified.{binders_of}
 use Rattle.syn_form.specs.Printing.{PrintedForm, print_out_step, printed_form, printed_out, printed_qform, printed_term}
-use Rattle.syn_form.specs.Quantified.{bare_qform, unquantified}
+use Rattle.syn_form.specs.Quantified.{as_qform, bare_qform, unquantified}
 use Rattle.syn_expr.specs.Readable.{CanReadForm, CanReadOut, CanReadOutNode, CanReadTerm, IsReadableForm, IsReadableOut, IsReadableQForm, IsReadableTerm}
 use Rattle.syn_form.specs.Scopes.{TextScope}
 use Rattle.syn_form.specs.Sorts.{are_of_one_sort}
@@ -35,8 +35,7 @@ use Rattle.syn_expr.proofs.FormPuts.{qform_puts}
 use Rattle.syn_expr.proofs.Puts.{PutsWords, else_between, space_stops, spelled_alone, then_between, word_then_space, words_then}
 use Rattle.syn_expr.proofs.TermPuts.{term_puts}
 use Rattle.syn_expr.proofs.ReadSorts.{given_there, one_sort}
-use Rattle.syn_form.proofs.SpokenVars.{sorts_spoken}
-use Rattle.syn_expr.proofs.TreeReadings.{as_qform, form_written, out_written, out_written_step, qform_written, term_written}
+use Rattle.syn_expr.proofs.TreeReadings.{form_written, out_written, out_written_step, qform_written, term_written}
 
 texts_in_turn : (a b c d e f : List ℕ) → a ++ b ++ c ++ d ++ e ++ f ≡ a ++ (b ++ (c ++ (d ++ (e ++ f))))
 texts_in_turn a b c d e f = simp append_assoc
@@ -159,7 +158,7 @@ qform_reads_back limit scope f r = record {
     next = 1 + length (binders_of f);
     written = refl;
     tree = qform_back f scope 1 r.plain.formed r.can r.plain.numbered;
-    sorts = subst HasOneSortEach (sym (qform_vars_bare f)) (sorts_spoken f r.plain.sorts);
+    sorts = subst HasOneSortEach (sym (qform_vars_bare f)) r.plain.sorts;
     few = subst (λ n. n ≤ limit.nodes) (sym (qform_nodes_bare f)) r.few;
     shallow = subst (λ n. n ≤ limit.depth) (sym (qform_depth_bare f)) r.shallow;
   };

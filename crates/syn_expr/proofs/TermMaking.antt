@@ -18,15 +18,15 @@ use Rattle.syn_form.specs.Scopes.{TextScope}
 use Rattle.syn_form.specs.Sorts.{makes_term}
 use Rattle.syn_expr.proofs.Options.{all_more, one_missing}
 use Rattle.syn_expr.proofs.TermSyntaxes.{fold-Applied}
-use Rattle.syn_form.proofs.Sorting.{application_of, makes_of, makes_bare}
+use Rattle.syn_form.proofs.Sorting.{application_decided, makes_bare}
 
 module _ (table : SymbolTable) (f : SymId) (args : List TermTree) where
   abbrev made : Option TermTree → Type 0
   made o = option_map bare o ≡ sorted_application table (map bare args) f
 
   made_of : (o : Option TermTree) → MatchOption o (IsApplication table f args → ⊥) (λ t. IsApplication table f args × (bare t ≡ application f (map bare args))) → made o
-  made_of None h = let e : makes_term table f (map bare args) ≡ false = makes_bare table f args ∙ false_from_ne_true (makes_term table f args) (λ k. h (application_of table f args k)) in rw e refl
-  made_of (Some t) h = let e : makes_term table f (map bare args) ≡ true = makes_bare table f args ∙ makes_of table f args h.0 in rw e (ap Some h.1)
+  made_of None h = let e : makes_term table f (map bare args) ≡ false = makes_bare table f args ∙ false_from_ne_true (makes_term table f args) (λ k. h ((application_decided table f args).0 k)) in rw e refl
+  made_of (Some t) h = let e : makes_term table f (map bare args) ≡ true = makes_bare table f args ∙ (application_decided table f args).1 h.0 in rw e (ap Some h.1)
 
   -- what the bank answers for a symbol that was found
   pub found_made : (symbol : Option SymId) (o : Option TermTree) → symbol ≡ Some f → MatchOption o (IsApplication table f args → ⊥) (λ t. IsApplication table f args × (bare t ≡ application f (map bare args))) → option_map bare o ≡ option_and_then (sorted_application table (map bare args)) symbol

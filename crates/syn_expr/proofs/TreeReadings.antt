@@ -19,14 +19,11 @@ use Rattle.syn_form.specs.declared.syntax.TermSyntax.TheViews as term_view
 use Rattle.syn_form.specs.declared.syntax.Quantifier.{Quantifier}
 use Rattle.syn_form.specs.declared.syntax.Quantifier.TheVariants as quantifier
 use Rattle.syn_form.specs.declared.trees.Binder.{Binder}
-use Rattle.syn_form.specs.declared.trees.Form.{fold-Form}
-use Rattle.syn_form.specs.declared.trees.Form.TheOpen.{Form-F}
 use Rattle.syn_form.specs.declared.trees.Out.{fold-Out}
 use Rattle.syn_form.specs.declared.trees.Out.TheOpen.{Out-F}
 use Rattle.syn_form.specs.declared.trees.QForm.{fold-QForm}
 use Rattle.syn_form.specs.declared.trees.QForm.TheOpen.{QForm-F}
-use Rattle.syn_form.specs.declared.trees.QForm.TheVariants as qform
-use Rattle.syn_form.specs.declared.trees.QForm.TheViews as qview
+use Rattle.syn_form.specs.Quantified.{as_qform}
 use Rattle.syn_form.specs.Trees.{FormTree, QFormTree, OutTree}
 use Rattle.syn_form.specs.Scopes.{TextScope}
 use Rattle.syn_form.specs.Printing.{in_scope_of, name_for, name_of, sort_text}
@@ -143,20 +140,6 @@ qform_written_step (QForm-F.Exists b p) scope = loose_written (quantified_writte
 -- the reading that a formula is printed from
 abbrev pub qform_written : QFormTree → TextScope → FormWritten
 qform_written = fold-QForm (TextScope → FormWritten) qform_written_step
-
-abbrev pub as_qform_step : Form-F QFormTree → QFormTree
-as_qform_step Form-F.True = qform.True
-as_qform_step Form-F.False = qform.False
-as_qform_step (Form-F.Atom r args) = qform.Atom r args
-as_qform_step (Form-F.Equal s t) = qform.Equal s t
-as_qform_step (Form-F.Not a) = qview.Not a
-as_qform_step (Form-F.And all) = qview.And all
-as_qform_step (Form-F.Or all) = qview.Or all
-as_qform_step (Form-F.Implies a b) = qview.Implies a b
-
--- a formula without quantifiers as one of those that may have them
-abbrev pub as_qform : FormTree → QFormTree
-as_qform = fold-Form QFormTree as_qform_step
 
 abbrev pub form_written : TextScope → FormTree → FormWritten
 form_written scope f = qform_written (as_qform f) scope

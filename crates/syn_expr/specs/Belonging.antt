@@ -18,22 +18,8 @@ use Rattle.syn_form.specs.declared.trees.Out.{roll-Out, fold-roll-Out}
 use Rattle.syn_form.specs.declared.trees.Out.TheOpen.{Out-F}
 use Rattle.syn_form.specs.declared.trees.Out.TheVariants as out
 use Rattle.syn_form.specs.declared.trees.Out.TheViews as out_view
+use Rattle.syn_form.specs.Quantified.{qform_terms, qform_terms_step}
 use Rattle.syn_form.specs.Trees.{FormTree, OutTree, QFormTree, all_of, form_terms, out_terms, out_terms_step}
-
-abbrev pub qform_terms_step : QForm-F (List TermTree) → List TermTree
-qform_terms_step (QForm-F.Atom r args) = args
-qform_terms_step (QForm-F.Equal s t) = s ∷ t ∷ []
-qform_terms_step (QForm-F.Not a) = a
-qform_terms_step (QForm-F.And all) = all_of all
-qform_terms_step (QForm-F.Or all) = all_of all
-qform_terms_step (QForm-F.Implies a b) = a ++ b
-qform_terms_step (QForm-F.All b a) = a
-qform_terms_step (QForm-F.Exists b a) = a
-qform_terms_step _ = []
-
--- the terms of its atoms and equalities, from the left
-abbrev pub qform_terms : QFormTree → List TermTree
-qform_terms = fold-QForm (List TermTree) qform_terms_step
 
 -- each term of the formula belongs to the bank
 pub QFormBelongs : Kept → QFormTree → Type 0

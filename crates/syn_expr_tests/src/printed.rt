@@ -66,7 +66,7 @@ fn in_file<'a>(table: &'a Table, names: &'a [(String, Var)]) -> Scope<'a> {
 
 /// A symbol without arguments.
 fn constant(alloc: Global, table: &Table, f: SymId) -> Result<Term, Fail> {
-    let mut bank = Bank::new();
+    let mut bank = Bank::new(alloc);
     match bank.app(alloc, &table.syms, f, &[])? {
         None => Err(Fail::new("no constant")),
         Some(t) => Ok(t),
@@ -74,13 +74,13 @@ fn constant(alloc: Global, table: &Table, f: SymId) -> Result<Term, Fail> {
 }
 
 fn variable(alloc: Global, number: u32, sort: Sort) -> Result<Term, NoMemory> {
-    let mut bank = Bank::new();
+    let mut bank = Bank::new(alloc);
     bank.var(alloc, Var { number, sort })
 }
 
 /// The symbol over the variable with this number.
 fn applied(alloc: Global, table: &Table, f: SymId, number: u32) -> Result<Term, Fail> {
-    let mut bank = Bank::new();
+    let mut bank = Bank::new(alloc);
     let v = bank.var(alloc, Var { number, sort: NAT })?;
     match bank.app(alloc, &table.syms, f, &[v])? {
         None => Err(Fail::new("no term")),
@@ -100,7 +100,7 @@ fn successor(alloc: Global, bank: &mut Bank, table: &Table, t: Term) -> Result<T
 
 /// So many successors of 0.
 fn number(alloc: Global, table: &Table, count: u32) -> Result<Term, Fail> {
-    let mut bank = Bank::new();
+    let mut bank = Bank::new(alloc);
     let Some(mut t) = bank.app(alloc, &table.syms, ZERO, &[])? else {
         return Err(Fail::new("no zero"));
     };

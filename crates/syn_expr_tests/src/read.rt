@@ -37,7 +37,7 @@ enum Kinds {
 
 /// The term of the text as it is printed; nothing where it is refused.
 fn term_again(alloc: Global, scope: &Scope, text: &str) -> Result<String, Fail> {
-    match read_term(alloc, &mut Bank::new(), scope, text) {
+    match read_term(alloc, &mut Bank::new(alloc), scope, text) {
         Ok(tree) => Ok(print_term(alloc, scope, &tree)?),
         Err(ExprError::Refused) => Ok(String::new(alloc)),
         Err(ExprError::NoMemory) => Err(Fail::new("no memory")),
@@ -46,7 +46,7 @@ fn term_again(alloc: Global, scope: &Scope, text: &str) -> Result<String, Fail> 
 
 /// The form of the text as it is printed; nothing where it is refused.
 fn form_again(alloc: Global, scope: &Scope, text: &str) -> Result<String, Fail> {
-    match read_form(alloc, &mut Bank::new(), scope, text) {
+    match read_form(alloc, &mut Bank::new(alloc), scope, text) {
         Ok(tree) => Ok(print_form(alloc, scope, &tree)?),
         Err(ExprError::Refused) => Ok(String::new(alloc)),
         Err(ExprError::NoMemory) => Err(Fail::new("no memory")),
@@ -55,7 +55,7 @@ fn form_again(alloc: Global, scope: &Scope, text: &str) -> Result<String, Fail> 
 
 /// The formula of the text as it is printed; nothing where it is refused.
 fn qform_again(alloc: Global, scope: &Scope, text: &str) -> Result<String, Fail> {
-    match read_qform(alloc, &mut Bank::new(), scope, text) {
+    match read_qform(alloc, &mut Bank::new(alloc), scope, text) {
         Ok(tree) => Ok(print_qform(alloc, scope, &tree)?),
         Err(ExprError::Refused) => Ok(String::new(alloc)),
         Err(ExprError::NoMemory) => Err(Fail::new("no memory")),
@@ -64,7 +64,7 @@ fn qform_again(alloc: Global, scope: &Scope, text: &str) -> Result<String, Fail>
 
 /// The out of the text as it is printed; nothing where it is refused.
 fn out_again(alloc: Global, scope: &Scope, text: &str) -> Result<String, Fail> {
-    match read_out(alloc, &mut Bank::new(), scope, text) {
+    match read_out(alloc, &mut Bank::new(alloc), scope, text) {
         Ok(tree) => Ok(print_out(alloc, scope, &tree)?),
         Err(ExprError::Refused) => Ok(String::new(alloc)),
         Err(ExprError::NoMemory) => Err(Fail::new("no memory")),
@@ -73,7 +73,7 @@ fn out_again(alloc: Global, scope: &Scope, text: &str) -> Result<String, Fail> {
 
 /// The body of the text as it is printed; nothing where it is refused.
 fn body_again(alloc: Global, scope: &Scope, text: &str) -> Result<String, Fail> {
-    match read_body(alloc, &mut Bank::new(), scope, text) {
+    match read_body(alloc, &mut Bank::new(alloc), scope, text) {
         Ok(tree) => Ok(print_out(alloc, scope, &tree)?),
         Err(ExprError::Refused) => Ok(String::new(alloc)),
         Err(ExprError::NoMemory) => Err(Fail::new("no memory")),

@@ -61,7 +61,7 @@ fn term(alloc: Global, theory: &Theory, text: &str) -> Result<Term, Fail> {
     let names = names(alloc)?;
     match read_term(
         alloc,
-        &mut Bank::new(),
+        &mut Bank::new(alloc),
         &scope(theory, names.as_slice()),
         text,
     ) {
@@ -74,7 +74,7 @@ fn form(alloc: Global, theory: &Theory, text: &str) -> Result<Form, Fail> {
     let names = names(alloc)?;
     match read_form(
         alloc,
-        &mut Bank::new(),
+        &mut Bank::new(alloc),
         &scope(theory, names.as_slice()),
         text,
     ) {
@@ -87,7 +87,7 @@ fn output(alloc: Global, theory: &Theory, text: &str) -> Result<Out, Fail> {
     let names = names(alloc)?;
     match read_out(
         alloc,
-        &mut Bank::new(),
+        &mut Bank::new(alloc),
         &scope(theory, names.as_slice()),
         text,
     ) {
@@ -97,7 +97,7 @@ fn output(alloc: Global, theory: &Theory, text: &str) -> Result<Out, Fail> {
 }
 
 fn closed(alloc: Global, theory: &Theory, text: &str) -> Result<QForm, Fail> {
-    match read_qform(alloc, &mut Bank::new(), &scope(theory, &[]), text) {
+    match read_qform(alloc, &mut Bank::new(alloc), &scope(theory, &[]), text) {
         Ok(f) => Ok(f),
         Err(error) => Err(failed(error)),
     }
@@ -221,7 +221,7 @@ fn decl(alloc: Global, theory: &Theory, line: Line) -> Result<Decl, Fail> {
 /// Whether the theory took the declaration.
 fn is_taken(alloc: Global, theory: &mut Theory, line: Line) -> Result<bool, Fail> {
     let decl = decl(alloc, theory, line)?;
-    match theory.declare(alloc, decl) {
+    match theory.declare(decl) {
         Ok(()) => Ok(true),
         Err(DeclError::Refused) => Ok(false),
         Err(DeclError::NoMemory) => Err(Fail::new("no memory")),

@@ -1,23 +1,22 @@
--- Parts of trees, and parts simplified, have terms of one bank where the tree does; and what a chain becomes.
-use Rattle.std.proofs.Common.{◌≡◌, ℕ, ◌<◌, ◌≤◌, List, [], ◌∷◌, ◌++◌, map, take, length, get_or, sym, ◌∙◌, ap, arith}
-use Rattle.std.proofs.lemmas.List.{take_all}
+-- Parts of trees, and parts simplified, have terms of one bank where the tree does.
+use Rattle.std.proofs.Common.{◌≡◌, ℕ, ◌<◌, List, [], ◌∷◌, ◌++◌, map, take, length, get_or, sym, ◌∙◌, ap, arith}
 use Rattle.std.proofs.lemmas.List.Elements.{Contains-append_left, Contains-append_right}
 use Rattle.syn_term.specs.Bank.{Agree, Agree-belongs}
 use Rattle.syn_term.specs.Terms.{TermTree}
 use Rattle.syn_form.specs.declared.trees.Form.TheViews as view
 use Rattle.syn_form.specs.declared.trees.Out.TheViews as out_view
-use Rattle.syn_form.specs.Joining.{terms_of}
-use Rattle.syn_form.specs.Same.{OfOneBank}
-use Rattle.syn_form.specs.Simplification.{Junction, chain, joined, simplified_form, simplified_out}
+use Rattle.syn_form.specs.inner.Joining.{terms_of}
+use Rattle.syn_form.specs.Same.{OfOneBank, OfOneBank-to}
+use Rattle.syn_form.specs.Simplification.{Junction, chain, simplified_form, simplified_out}
 use Rattle.syn_form.specs.Trees.{FormTree, OutTree, form_terms, out_terms}
-use Rattle.syn_form.proofs.Equations.{form_terms-Implies, out_terms-If}
+use Rattle.syn_form.proofs.Equations.{form_terms-Implies, form_terms-Not, out_terms-If}
 use Rattle.syn_form.proofs.Lists.{Contains-along}
 use Rattle.syn_form.proofs.Members.{item_among, take_among}
-use Rattle.syn_form.proofs.SimplifiedTerms.{Among, OfOneBank-among, Among-append, form_terms-chain, parts-terms, simplified_form-chain, simplified_form-terms, simplified_out-terms}
+use Rattle.syn_form.proofs.SimplifiedTerms.{Among, OfOneBank-among, Among-append, Among-same, form_terms-chain, parts-terms, simplified_form-terms, simplified_out-terms}
 
 -- two terms of one bank agree
 pub agree_of : (s t : TermTree) → OfOneBank (s ∷ t ∷ []) → Agree s t
-agree_of s t one = Agree-belongs one.0 s t (one.1 0 s (omega arith)) (one.1 1 t (omega arith))
+agree_of s t one = let p = OfOneBank-to (s ∷ t ∷ []) one in Agree-belongs p.0 s t (p.1 0 s (omega arith)) (p.1 1 t (omega arith))
 
 simple_among : (a b : FormTree) → b ≡ simplified_form a → Among (form_terms b) (form_terms a)
 simple_among a b e t c = simplified_form-terms a t (Contains-along (form_terms b) (form_terms (simplified_form a)) t (ap form_terms e) c)
@@ -25,31 +24,36 @@ simple_among a b e t c = simplified_form-terms a t (Contains-along (form_terms b
 simple_out_among : (o p : OutTree) → p ≡ simplified_out o → Among (out_terms p) (out_terms o)
 simple_out_among o p e t c = simplified_out-terms o t (Contains-along (out_terms p) (out_terms (simplified_out o)) t (ap out_terms e) c)
 
+pub negation_bank : (f a a' : FormTree) → f ≡ view.Not a → a' ≡ a → OfOneBank (form_terms f) → OfOneBank (form_terms a')
+negation_bank f a a' is is_a = OfOneBank-among (form_terms a') (form_terms f) (Among-same (form_terms a') (form_terms f) (ap form_terms is_a ∙ sym (ap form_terms is ∙ form_terms-Not a)))
+
 module _ (f a b a' b' : FormTree) (is : f ≡ view.Implies a b) (is_a : a' ≡ a) (is_b : b' ≡ b) where
   terms_are : form_terms f ≡ form_terms a' ++ form_terms b'
   terms_are = ap form_terms is ∙ (form_terms-Implies a b ∙ (ap (λ (z : FormTree). form_terms z ++ form_terms b) (sym is_a) ∙ ap (λ (z : FormTree). form_terms a' ++ form_terms z) (sym is_b)))
 
-  pub right_bank : OfOneBank (form_terms f) → OfOneBank (form_terms b')
-  right_bank = OfOneBank-among (form_terms b') (form_terms f) (λ t c. Contains-along (form_terms a' ++ form_terms b') (form_terms f) t (sym terms_are) (Contains-append_right (form_terms a') (form_terms b') t c))
+  pub sides_bank : OfOneBank (form_terms f) → OfOneBank (form_terms a' ++ form_terms b')
+  sides_bank = OfOneBank-among (form_terms a' ++ form_terms b') (form_terms f) (Among-same (form_terms a' ++ form_terms b') (form_terms f) (sym terms_are))
 
-  pub implied_bank : (x y : FormTree) → x ≡ simplified_form a' → y ≡ simplified_form b' → OfOneBank (form_terms f) → OfOneBank (form_terms x ++ form_terms y)
-  implied_bank x y ex ey = OfOneBank-among (form_terms x ++ form_terms y) (form_terms f)
-      (λ t c. Contains-along (form_terms a' ++ form_terms b') (form_terms f) t (sym terms_are) (Among-append (form_terms x) (form_terms y) (form_terms a') (form_terms b') (simple_among a' x ex) (simple_among b' y ey) t c))
+-- terms of two lists in a row, and of one of them
+pub first_of : (xs ys : List TermTree) → OfOneBank (xs ++ ys) → OfOneBank xs
+first_of xs ys = OfOneBank-among xs (xs ++ ys) (Contains-append_left xs ys)
 
-module _ (j : Junction) (f : FormTree) (all items : List FormTree) (is : f ≡ chain j all) (same : items ≡ all) where
-  items_among : Among (terms_of items) (form_terms f)
-  items_among t c = Contains-along (terms_of items) (form_terms f) t (ap terms_of same ∙ (sym (form_terms-chain j all) ∙ sym (ap form_terms is))) c
+pub second_of : (xs ys : List TermTree) → OfOneBank (xs ++ ys) → OfOneBank ys
+second_of xs ys = OfOneBank-among ys (xs ++ ys) (Contains-append_right xs ys)
 
-  pub item_bank : (i : ℕ) (part : FormTree) → i < length items → part ≡ get_or items i part → OfOneBank (form_terms f) → OfOneBank (form_terms part)
-  item_bank i part lt at = OfOneBank-among (form_terms part) (form_terms f) (λ t c. items_among t (item_among items i part lt at t c))
+pub implied_bank : (a b x y : FormTree) → x ≡ simplified_form a → y ≡ simplified_form b → OfOneBank (form_terms a ++ form_terms b) → OfOneBank (form_terms x ++ form_terms y)
+implied_bank a b x y ex ey = OfOneBank-among (form_terms x ++ form_terms y) (form_terms a ++ form_terms b) (Among-append (form_terms x) (form_terms y) (form_terms a) (form_terms b) (simple_among a x ex) (simple_among b y ey))
 
-  pub parts_bank : (i : ℕ) (parts : List FormTree) → parts ≡ map simplified_form (take i items) → OfOneBank (form_terms f) → OfOneBank (terms_of parts)
-  parts_bank i parts e = OfOneBank-among (terms_of parts) (form_terms f)
-      (λ t c. items_among t (take_among i items t (parts-terms (take i items) (λ k d lt. simplified_form-terms (get_or (take i items) k d)) t (Contains-along (terms_of parts) (terms_of (map simplified_form (take i items))) t (ap terms_of e) c))))
+pub members_bank : (j : Junction) (f : FormTree) (all items : List FormTree) → f ≡ chain j all → items ≡ all → OfOneBank (form_terms f) → OfOneBank (terms_of items)
+members_bank j f all items is same = OfOneBank-among (terms_of items) (form_terms f) (Among-same (terms_of items) (form_terms f) (ap terms_of same ∙ (sym (form_terms-chain j all) ∙ sym (ap form_terms is))))
 
-  pub chain_end : (i : ℕ) (parts : List FormTree) (g : FormTree) → length items ≤ i → parts ≡ map simplified_form (take i items) → g ≡ joined j parts → g ≡ simplified_form f
-  chain_end i parts g le e h =
-      h ∙ (ap (joined j) (e ∙ ap (map simplified_form) (take_all i items le ∙ same)) ∙ (sym (simplified_form-chain j all) ∙ sym (ap simplified_form is)))
+module _ (items : List FormTree) where
+  pub item_bank : (i : ℕ) (part : FormTree) → i < length items → part ≡ get_or items i part → OfOneBank (terms_of items) → OfOneBank (form_terms part)
+  item_bank i part lt at = OfOneBank-among (form_terms part) (terms_of items) (item_among items i part lt at)
+
+  pub parts_bank : (i : ℕ) (parts : List FormTree) → parts ≡ map simplified_form (take i items) → OfOneBank (terms_of items) → OfOneBank (terms_of parts)
+  parts_bank i parts e = OfOneBank-among (terms_of parts) (terms_of items)
+      (λ t c. take_among i items t (parts-terms (take i items) (λ k d lt. simplified_form-terms (get_or (take i items) k d)) t (Contains-along (terms_of parts) (terms_of (map simplified_form (take i items))) t (ap terms_of e) c)))
 
 module _ (o : OutTree) (f f' : FormTree) (u v u' v' : OutTree) (is : o ≡ out_view.If f u v) (is_f : f' ≡ f) (is_u : u' ≡ u) (is_v : v' ≡ v) where
   out_terms_are : out_terms o ≡ form_terms f' ++ (out_terms u' ++ out_terms v')
@@ -57,18 +61,14 @@ module _ (o : OutTree) (f f' : FormTree) (u v u' v' : OutTree) (is : o ≡ out_v
       ap out_terms is ∙ (out_terms-If f u v ∙ (ap (λ (z : FormTree). form_terms z ++ (out_terms u ++ out_terms v)) (sym is_f)
       ∙ (ap (λ (z : OutTree). form_terms f' ++ (out_terms z ++ out_terms v)) (sym is_u) ∙ ap (λ (z : OutTree). form_terms f' ++ (out_terms u' ++ out_terms z)) (sym is_v))))
 
-  arms_among : Among (out_terms u' ++ out_terms v') (out_terms o)
-  arms_among t c = Contains-along (form_terms f' ++ (out_terms u' ++ out_terms v')) (out_terms o) t (sym out_terms_are) (Contains-append_right (form_terms f') (out_terms u' ++ out_terms v') t c)
+  choice_bank : OfOneBank (out_terms o) → OfOneBank (form_terms f' ++ (out_terms u' ++ out_terms v'))
+  choice_bank = OfOneBank-among (form_terms f' ++ (out_terms u' ++ out_terms v')) (out_terms o) (Among-same (form_terms f' ++ (out_terms u' ++ out_terms v')) (out_terms o) (sym out_terms_are))
 
   pub test_bank : OfOneBank (out_terms o) → OfOneBank (form_terms f')
-  test_bank = OfOneBank-among (form_terms f') (out_terms o) (λ t c. Contains-along (form_terms f' ++ (out_terms u' ++ out_terms v')) (out_terms o) t (sym out_terms_are) (Contains-append_left (form_terms f') (out_terms u' ++ out_terms v') t c))
+  test_bank one = first_of (form_terms f') (out_terms u' ++ out_terms v') (choice_bank one)
 
-  pub first_bank : OfOneBank (out_terms o) → OfOneBank (out_terms u')
-  first_bank = OfOneBank-among (out_terms u') (out_terms o) (λ t c. arms_among t (Contains-append_left (out_terms u') (out_terms v') t c))
+  pub arms_bank : OfOneBank (out_terms o) → OfOneBank (out_terms u' ++ out_terms v')
+  arms_bank one = second_of (form_terms f') (out_terms u' ++ out_terms v') (choice_bank one)
 
-  pub second_bank : OfOneBank (out_terms o) → OfOneBank (out_terms v')
-  second_bank = OfOneBank-among (out_terms v') (out_terms o) (λ t c. arms_among t (Contains-append_right (out_terms u') (out_terms v') t c))
-
-  pub arms_bank : (x y : OutTree) → x ≡ simplified_out u' → y ≡ simplified_out v' → OfOneBank (out_terms o) → OfOneBank (out_terms x ++ out_terms y)
-  arms_bank x y ex ey = OfOneBank-among (out_terms x ++ out_terms y) (out_terms o)
-      (λ t c. arms_among t (Among-append (out_terms x) (out_terms y) (out_terms u') (out_terms v') (simple_out_among u' x ex) (simple_out_among v' y ey) t c))
+pub simple_arms_bank : (u v x y : OutTree) → x ≡ simplified_out u → y ≡ simplified_out v → OfOneBank (out_terms u ++ out_terms v) → OfOneBank (out_terms x ++ out_terms y)
+simple_arms_bank u v x y ex ey = OfOneBank-among (out_terms x ++ out_terms y) (out_terms u ++ out_terms v) (Among-append (out_terms x) (out_terms y) (out_terms u) (out_terms v) (simple_out_among u x ex) (simple_out_among v y ey))

@@ -19,13 +19,11 @@ pub mod Fewer
 pub mod SignLaws
 pub mod Members
 pub mod Banks
-pub mod Testing
 pub mod QForms
 pub mod QNodes
 pub mod TermNodes
 pub mod Sorting
 pub mod Variables
-pub mod SpokenVars
 pub mod Numbering
 pub mod Deciding
 pub mod SortedTerms

@@ -12,7 +12,7 @@ use Rattle.syn_term.proofs.Same.{same_tree-to, same_tree-from}
 use Rattle.syn_form.specs.declared.trees.Form.{out-Form, roll-Form, roll-out-Form}
 use Rattle.syn_form.specs.declared.trees.Form.TheOpen.{Form-F}
 use Rattle.syn_form.specs.declared.trees.Form.TheViews as view
-use Rattle.syn_form.specs.Joining.{stays, terms_of}
+use Rattle.syn_form.specs.inner.Joining.{stays, terms_of}
 use Rattle.syn_form.specs.Same.{OfOneBank, same_form, same_out}
 use Rattle.syn_form.specs.Simplification.{Junction, conjunction, disjunction, neutral, opened, has_form, without_repeats, members_left}
 use Rattle.syn_form.specs.Trees.{FormTree, OutTree, bare_form, bare_out, form_terms}
@@ -89,9 +89,9 @@ neutral_terms : (j : Junction) → form_terms (neutral j) ≡ []
 neutral_terms conjunction = form_terms-True
 neutral_terms disjunction = form_terms-False
 
-pub with_neutral : (j : Junction) (done : List FormTree) (f g : FormTree) → g ≡ neutral j → OfOneBank (terms_of done ++ form_terms f) → OfOneBank (form_terms f ++ form_terms g)
-with_neutral j done f g is = OfOneBank-among (form_terms f ++ form_terms g) (terms_of done ++ form_terms f)
-    (Among-both (form_terms f) (form_terms g) (terms_of done ++ form_terms f) (Contains-append_right (terms_of done) (form_terms f))
+pub with_neutral : (j : Junction) (f g : FormTree) → g ≡ neutral j → OfOneBank (form_terms f) → OfOneBank (form_terms f ++ form_terms g)
+with_neutral j f g is = OfOneBank-among (form_terms f ++ form_terms g) (form_terms f)
+    (Among-both (form_terms f) (form_terms g) (form_terms f) (λ t c. c)
     (λ t c. absurd (none_in_nil t (Contains-along (form_terms g) [] t (ap form_terms is ∙ neutral_terms j) c))))
 
 Contains-take : {X : Type 0} (i : ℕ) (xs : List X) (x : X) → Contains (take i xs) x → Contains xs x

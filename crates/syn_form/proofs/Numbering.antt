@@ -8,7 +8,7 @@ use Rattle.syn_form.specs.declared.trees.QForm.TheViews as view
 use Rattle.syn_form.specs.PlainQuantified.{binders_of, binders_step}
 use Rattle.syn_form.specs.Trees.{QFormTree}
 use Rattle.syn_form.proofs.Lists.{all_of-map}
-use Rattle.syn_form.specs.Numbers.{AreFrom}
+use Rattle.syn_form.specs.inner.BinderNumbers.{AreFrom}
 use Rattle.syn_form.proofs.QForms.{qfold-And, qfold-Or, qfold-Implies}
 
 -- where those of two lists one after another have, those of each have

@@ -1,14 +1,14 @@
 -- Where the terms of two formulas are of one bank, those of their parts are too, and any two of them can be compared.
 use Rattle.std.proofs.Common.{◌≡◌, ℕ, zero, suc, ◌<◌, List, [], ◌∷◌, map, length, get_or, ◌++◌, All, sym, ◌∙◌, ap, subst, refl, arith}
 use Rattle.std.proofs.lemmas.List.Elements.{All-nil, All-cons, All-head, All-tail, All-append, All-get_or}
-use Rattle.syn_term.specs.Bank.{Kept, Belongs, new_bank, Agree, Agree-belongs}
+use Rattle.syn_term.specs.Bank.{Kept, Belongs, Agree, Agree-belongs}
 use Rattle.syn_term.specs.declared.sorts.SymId.{SymId}
 use Rattle.syn_term.specs.Terms.{TermTree}
 use Rattle.syn_form.specs.declared.trees.Form.TheVariants as form
 use Rattle.syn_form.specs.declared.trees.Form.TheViews as view
 use Rattle.syn_form.specs.declared.trees.Out.TheVariants as out
 use Rattle.syn_form.specs.declared.trees.Out.TheViews as out_view
-use Rattle.syn_form.specs.Same.{OfOneBank}
+use Rattle.syn_form.specs.Same.{OfOneBank, OfOneBank-from, OfOneBank-to}
 use Rattle.syn_form.specs.Trees.{FormTree, OutTree, form_terms, out_terms, all_of}
 use Rattle.syn_form.proofs.Equations.{form_terms-Atom, form_terms-Equal, form_terms-Not, form_terms-And, form_terms-Or, form_terms-Implies, out_terms-Give, out_terms-If}
 
@@ -32,11 +32,15 @@ abbrev Among : List TermTree → List TermTree → Type 1
 Among part whole = (P : TermTree → Type 0) → All P whole → All P part
 
 one_bank_of : (xs ys vs ws : List TermTree) → Among xs vs → Among ys ws → OfOneBank (vs ++ ws) → OfOneBank (xs ++ ys)
-one_bank_of xs ys vs ws f g h = (h.0, All-append (Belongs h.0) xs ys (f (Belongs h.0) (All-left (Belongs h.0) vs ws h.1)) (g (Belongs h.0) (All-right (Belongs h.0) vs ws h.1)))
+one_bank_of xs ys vs ws f g one = both (OfOneBank-to (vs ++ ws) one)
+  where
+    both : (b : Kept) × All (Belongs b) (vs ++ ws) → OfOneBank (xs ++ ys)
+    both h = OfOneBank-from h.0 (xs ++ ys) (All-append (Belongs h.0) xs ys (f (Belongs h.0) (All-left (Belongs h.0) vs ws h.1)) (g (Belongs h.0) (All-right (Belongs h.0) vs ws h.1)))
 
 -- any two terms of one bank agree
 pub agree_at : (xs ys : List TermTree) (i j : ℕ) (d e x y : TermTree) → OfOneBank (xs ++ ys) → i < length xs → j < length ys → x ≡ get_or xs i d → y ≡ get_or ys j e → Agree x y
-agree_at xs ys i j d e x y h lt lu is_x is_y =
+agree_at xs ys i j d e x y one lt lu is_x is_y =
+    let h = OfOneBank-to (xs ++ ys) one in
     let a : Belongs h.0 x = subst (Belongs h.0) (sym is_x) (All-get_or (Belongs h.0) xs i d lt (All-left (Belongs h.0) xs ys h.1)) in
     let b : Belongs h.0 y = subst (Belongs h.0) (sym is_y) (All-get_or (Belongs h.0) ys j e lu (All-right (Belongs h.0) xs ys h.1)) in
     Agree-belongs h.0 x y a b
@@ -119,12 +123,3 @@ module _ (o p : OutTree) (one : OfOneBank (out_terms o ++ out_terms p)) where
         parts_of_choices (out_terms a) (out_terms b)
         (λ P h. subst (λ (z : OutTree). All P (out_terms z)) (sym is_a) (All-right P (out_terms u) (out_terms v) (All-right P (form_terms f) (out_terms u ++ out_terms v) h)))
         (λ P h. subst (λ (z : OutTree). All P (out_terms z)) (sym is_b) (All-right P (out_terms x) (out_terms y) (All-right P (form_terms g) (out_terms x ++ out_terms y) h)))
-
--- formulas without terms, and one output twice, are of one bank
-pub none_owned : (xs ys : List TermTree) → xs ≡ [] → ys ≡ [] → OfOneBank (xs ++ ys)
-none_owned xs ys e k = one_bank_of xs ys [] [] (λ P h. subst (All P) (sym e) h) (λ P h. subst (All P) (sym k) h) (new_bank, All-nil (Belongs new_bank))
-
-pub given_owned : (b : Kept) (t : TermTree) (p : OutTree) → Belongs b t → p ≡ out.Give t → OfOneBank (out_terms (out.Give t) ++ out_terms p)
-given_owned b t p h e =
-    let one : All (Belongs b) (t ∷ []) = All-cons (Belongs b) t [] h (All-nil (Belongs b)) in
-    (b, All-append (Belongs b) (out_terms (out.Give t)) (out_terms p) (subst (All (Belongs b)) (sym (out_terms-Give t)) one) (subst (All (Belongs b)) (sym (ap out_terms e ∙ out_terms-Give t)) one))

@@ -5,7 +5,6 @@ use Rattle.syn_form.specs.Plain.{HasOneSortEach, IsFormed, IsFormedOut, IsPlainF
 use Rattle.syn_form.specs.PlainQuantified.{BindsOnce, MayBind, IsFormedQ, IsNumbered, IsPlainQForm, binders_of}
 use Rattle.syn_form.specs.Quantified.{qform_vars}
 use Rattle.syn_form.specs.Trees.{FormTree, OutTree, QFormTree, form_vars, out_vars}
-use Rattle.syn_form.proofs.SpokenVars.{sorts_listed, sorts_spoken}
 
 pub plain_form : (table : SymbolTable) (f : FormTree) (b : Bool) → IsFormed table f → (IsTrue b ↔ HasOneSortEach (form_vars f)) → IsTrue b ↔ IsPlainForm table f
 plain_form table f b formed h = ((λ e. record { formed = formed; sorts = h.0 e }), (λ p. h.1 p.sorts))
@@ -15,6 +14,6 @@ plain_out table o b formed h = ((λ e. record { formed = formed; sorts = h.0 e }
 
 pub plain_qform : (table : SymbolTable) (f : QFormTree) (b : Bool) → IsFormedQ table f → IsNumbered f × All (MayBind table) (binders_of f) × BindsOnce f → (IsTrue b ↔ HasOneSortEach (qform_vars f)) → IsTrue b ↔ IsPlainQForm table f
 plain_qform table f b formed binders h = (
-  (λ e. record { formed = formed; sorts = sorts_listed f (h.0 e); numbered = binders.0; binders = binders.1; once = binders.2 }),
-  (λ p. h.1 (sorts_spoken f p.sorts)),
+  (λ e. record { formed = formed; sorts = h.0 e; numbered = binders.0; binders = binders.1; once = binders.2 }),
+  (λ p. h.1 p.sorts),
 )

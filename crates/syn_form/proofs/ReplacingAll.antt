@@ -12,7 +12,7 @@ use Rattle.syn_form.specs.declared.trees.Form.TheViews as view
 use Rattle.syn_form.specs.Trees.{FormTree, form_terms, form_terms_step, form_vars, term_vars}
 use Rattle.syn_form.specs.Same.{same_form}
 use Rattle.syn_form.specs.Plain.{IsFormed, IsPlainForm, PlainFormNode}
-use Rattle.syn_form.specs.Truth.{Assignment, truth, truth_step}
+use Rattle.syn_form.specs.Truth.{Assignment, truth_value, truth_value_step}
 use Rattle.syn_form.specs.Simplification.{Junction, conjunction, disjunction, chain}
 use Rattle.syn_form.specs.Replacing.{replaced_all, truth_form}
 use Rattle.syn_form.specs.ReplacingLaws.{ReplacesAll}
@@ -27,15 +27,15 @@ use Rattle.syn_form.proofs.ReplacingCases.{by_replacing}
 
 -- the members that are put in place of others, where each is a kind of its own
 module _ (r : FormTree → FormTree) where
-  members-truth : (a : Assignment) (all : List FormTree) → All (λ f. truth a (r f) ≡ truth a f) all → map (truth a) (map r all) ≡ map (truth a) all
+  members-truth : (a : Assignment) (all : List FormTree) → All (λ f. truth_value a (r f) ≡ truth_value a f) all → map (truth_value a) (map r all) ≡ map (truth_value a) all
   members-truth a [] h = refl
   members-truth a (f ∷ fs) h =
-      let e : truth a (r f) ≡ truth a f = All-head (λ (g : FormTree). truth a (r g) ≡ truth a g) f fs h in
-      let k : map (truth a) (map r fs) ≡ map (truth a) fs = members-truth a fs (All-tail (λ (g : FormTree). truth a (r g) ≡ truth a g) f fs h) in cc
+      let e : truth_value a (r f) ≡ truth_value a f = All-head (λ (g : FormTree). truth_value a (r g) ≡ truth_value a g) f fs h in
+      let k : map (truth_value a) (map r fs) ≡ map (truth_value a) fs = members-truth a fs (All-tail (λ (g : FormTree). truth_value a (r g) ≡ truth_value a g) f fs h) in cc
 
-  pub chain-truth : (a : Assignment) (j : Junction) (all : List FormTree) → All (λ f. truth a (r f) ≡ truth a f) all → truth a (chain j (map r all)) ≡ truth a (chain j all)
-  chain-truth a conjunction all h = fold-And (truth_step a) (map r all) ∙ (ap (list_all (λ x. x)) (members-truth a all h) ∙ sym (fold-And (truth_step a) all))
-  chain-truth a disjunction all h = fold-Or (truth_step a) (map r all) ∙ (ap (list_any (λ x. x)) (members-truth a all h) ∙ sym (fold-Or (truth_step a) all))
+  pub chain-truth : (a : Assignment) (j : Junction) (all : List FormTree) → All (λ f. truth_value a (r f) ≡ truth_value a f) all → truth_value a (chain j (map r all)) ≡ truth_value a (chain j all)
+  chain-truth a conjunction all h = fold-And (truth_value_step a) (map r all) ∙ (ap (list_all (λ x. x)) (members-truth a all h) ∙ sym (fold-And (truth_value_step a) all))
+  chain-truth a disjunction all h = fold-Or (truth_value_step a) (map r all) ∙ (ap (list_any (λ x. x)) (members-truth a all h) ∙ sym (fold-Or (truth_value_step a) all))
 
   members-formed : (table : SymbolTable) (all : List FormTree) → All (λ f. IsFormed table f → IsFormed table (r f)) all → All (IsFormed table) all → All (IsFormed table) (map r all)
   members-formed table [] h k = All-nil (IsFormed table)
@@ -66,20 +66,20 @@ module _ (part : FormTree) (by : Bool) where
   abbrev replaced : FormTree → FormTree
   replaced = replaced_all part by
 
-  truth-constant : (a : Assignment) (b : Bool) → truth a (truth_form b) ≡ b
-  truth-constant a true = fold-True (truth_step a)
-  truth-constant a false = fold-False (truth_step a)
+  truth-constant : (a : Assignment) (b : Bool) → truth_value a (truth_form b) ≡ b
+  truth-constant a true = fold-True (truth_value_step a)
+  truth-constant a false = fold-False (truth_value_step a)
 
-  pub replaced-truth : (a : Assignment) → truth a part ≡ by → (f : FormTree) → truth a (replaced f) ≡ truth a f
-  replaced-truth a value = by_replacing part by (λ f g. truth a g ≡ truth a f) record {
+  pub replaced-truth : (a : Assignment) → truth_value a part ≡ by → (f : FormTree) → truth_value a (replaced f) ≡ truth_value a f
+  replaced-truth a value = by_replacing part by (λ f g. truth_value a g ≡ truth_value a f) record {
     at_hit = λ f e. truth-constant a by ∙ (sym value ∙ sym (truth-same a f part e));
     at_true = refl;
     at_false = refl;
     at_atom = λ r args. refl;
     at_equal = λ s t. refl;
-    at_not = λ x h. fold-Not (truth_step a) (replaced x) ∙ (ap not h ∙ sym (fold-Not (truth_step a) x));
+    at_not = λ x h. fold-Not (truth_value_step a) (replaced x) ∙ (ap not h ∙ sym (fold-Not (truth_value_step a) x));
     at_chain = λ j all h. chain-truth replaced a j all h;
-    at_implies = λ x y h k. fold-Implies (truth_step a) (replaced x) (replaced y) ∙ (ap (λ (z : Bool). not z || truth a (replaced y)) h ∙ (ap (λ (z : Bool). not (truth a x) || z) k ∙ sym (fold-Implies (truth_step a) x y)));
+    at_implies = λ x y h k. fold-Implies (truth_value_step a) (replaced x) (replaced y) ∙ (ap (λ (z : Bool). not z || truth_value a (replaced y)) h ∙ (ap (λ (z : Bool). not (truth_value a x) || z) k ∙ sym (fold-Implies (truth_value_step a) x y)));
   }
 
   constant-formed : (table : SymbolTable) (b : Bool) → IsFormed table (truth_form b)

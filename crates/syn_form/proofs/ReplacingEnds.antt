@@ -4,7 +4,7 @@ use Rattle.std.proofs.Common.{◌≡◌, ◌<◌, ◌+◌, Bool, true, false, Li
 use Rattle.std.proofs.lemmas.List.Elements.{Contains-append_left, Contains-append_right}
 use Rattle.syn_term.specs.Terms.{TermTree}
 use Rattle.syn_form.specs.declared.trees.Form.TheViews as view
-use Rattle.syn_form.specs.Joining.{terms_of}
+use Rattle.syn_form.specs.inner.Joining.{terms_of}
 use Rattle.syn_form.specs.Same.{OfOneBank, same_form}
 use Rattle.syn_form.specs.Simplification.{Junction, conjunction, disjunction, chain}
 use Rattle.syn_form.specs.Trees.{FormTree, form_nodes, form_nodes_step, form_terms}

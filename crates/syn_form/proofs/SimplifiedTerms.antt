@@ -5,14 +5,14 @@ use Rattle.std.proofs.lemmas.List.Concat.{flat_map-append}
 use Rattle.std.proofs.lemmas.List.Elements.{Contains-append_left, Contains-append_right, Contains-append_cases, All-head, All-tail, All-contains, Contains-get_or}
 use mathlib.Core.Logic.{inl, inr}
 use Rattle.syn_term.specs.declared.sorts.Var.{Var}
-use Rattle.syn_term.specs.Bank.{Belongs}
+use Rattle.syn_term.specs.Bank.{Kept, Belongs}
 use Rattle.syn_term.specs.Terms.{TermTree}
 use Rattle.syn_form.specs.declared.trees.Form.TheVariants as form
 use Rattle.syn_form.specs.declared.trees.Form.TheViews as view
 use Rattle.syn_form.specs.declared.trees.Out.TheVariants as out
 use Rattle.syn_form.specs.declared.trees.Out.TheViews as out_view
 use Rattle.syn_form.specs.Trees.{FormTree, OutTree, form_terms, form_terms_step, form_vars, out_terms, out_terms_step, out_vars, term_vars}
-use Rattle.syn_form.specs.Same.{same_form, OfOneBank}
+use Rattle.syn_form.specs.Same.{same_form, OfOneBank, OfOneBank-from, OfOneBank-to}
 use Rattle.syn_form.specs.Simplification.{Junction, conjunction, disjunction, chain, neutral, deciding, opened, has_form, without_repeats, members_left, chain_of, joined, negated, implied, equated, chosen, simplified_form, simplified_form_step, simplified_out, simplified_out_step}
 use Rattle.syn_form.proofs.Equations.{fold-True, fold-False, fold-Atom, fold-Equal, fold-Not, fold-And, fold-Or, fold-Implies, fold-Give, fold-If}
 use Rattle.syn_form.proofs.Inductions.{by_form_cases, by_out_cases}
@@ -26,7 +26,10 @@ Among xs ys = (t : TermTree) → Contains xs t → Contains ys t
 
 -- terms are of one bank where they are among terms of one bank
 pub OfOneBank-among : (xs ys : List TermTree) → Among xs ys → OfOneBank ys → OfOneBank xs
-OfOneBank-among xs ys sub one = (one.0, λ k d lt. All-contains (Belongs one.0) ys (get_or xs k d) one.1 (sub (get_or xs k d) (Contains-get_or xs k d lt)))
+OfOneBank-among xs ys sub one = within (OfOneBank-to ys one)
+  where
+    within : (b : Kept) × All (Belongs b) ys → OfOneBank xs
+    within p = OfOneBank-from p.0 xs (λ k d lt. All-contains (Belongs p.0) ys (get_or xs k d) p.1 (sub (get_or xs k d) (Contains-get_or xs k d lt)))
 
 pub form_terms-chain : (j : Junction) (all : List FormTree) → form_terms (chain j all) ≡ flat_map form_terms all
 form_terms-chain conjunction all = fold-And form_terms_step all ∙ all_of-map form_terms all

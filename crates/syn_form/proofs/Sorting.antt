@@ -1,6 +1,5 @@
 -- Which symbols take which terms: the truth values and the facts say the same, and places make no difference.
-use Rattle.std.proofs.Common.{◌≡◌, ◌≢◌, ◌⊎◌, Bool, true, false, not, ◌&&◌, List, [], ◌∷◌, rules, Option, None, Some, map, refl, sym, ◌∙◌, ap, true≢false, arith}
-use Rattle.std.specs.Option.{option_and_then}
+use Rattle.std.proofs.Common.{◌≡◌, ◌≢◌, ◌⊎◌, ◌↔◌, Bool, true, false, IsTrue, not, ◌&&◌, List, [], ◌∷◌, rules, Option, None, Some, map, refl, sym, ◌∙◌, ap, true≢false, arith}
 use Rattle.std.proofs.lemmas.Bool.Decides.{nat_tests}
 use mathlib.Core.Logic.{inl, inr}
 use denote.Hole.Carrier.{roll}
@@ -20,8 +19,8 @@ use Rattle.syn_term.specs.declared.term.Node.TheViews.{the_lemmas}
 use Rattle.syn_term.specs.Symbols.{SymbolTable, symbol_at}
 use Rattle.syn_term.specs.Terms.{TermTree, IsApplication, bare, bare_step, nowhere, sort_of, head_of}
 use Rattle.syn_term.proofs.Trees.{bare-App, by_terms, fold-Var}
-use Rattle.syn_form.specs.Plain.{IsAtom}
-use Rattle.syn_form.specs.Heads.{head_sort}
+use Rattle.syn_form.specs.Plain.{IsAtom, result_of}
+use Rattle.syn_form.specs.inner.Heads.{head_sort}
 use Rattle.syn_form.specs.Sorts.{same_sort, is_of_sort, are_of_sorts, is_relation, makes_term, makes_atom}
 
 same_sort_to : (r s : Sort) → same_sort r s ≡ true → r ≡ s
@@ -92,12 +91,10 @@ module _ (table : SymbolTable) (f : SymId) (args : List TermTree) where
         sorts = of_sorts_to (map (sort_of table) args) s.args p.1;
       }
 
-  -- a symbol that makes a term may be applied
-  pub application_of : makes_term table f args ≡ true → IsApplication table f args
+  application_of : makes_term table f args ≡ true → IsApplication table f args
   application_of = application_at (symbol_at table f) refl
 
-  -- and one that may be applied makes a term
-  pub makes_of : IsApplication table f args → makes_term table f args ≡ true
+  makes_of : IsApplication table f args → makes_term table f args ≡ true
   makes_of a =
       let s = a.sym in
       let h : (not (is_relation s.kind) && are_of_sorts (map (sort_of table) args) s.args) ≡ true =
@@ -115,19 +112,22 @@ module _ (table : SymbolTable) (f : SymId) (args : List TermTree) where
         sorts = of_sorts_to (map (sort_of table) args) s.args p.1;
       }
 
-  -- a symbol that makes an atom stands before its arguments
-  pub atom_of : makes_atom table f args ≡ true → IsAtom table f args
+  atom_of : makes_atom table f args ≡ true → IsAtom table f args
   atom_of = atom_at (symbol_at table f) refl
 
-  pub makes_atom_of : IsAtom table f args → makes_atom table f args ≡ true
+  makes_atom_of : IsAtom table f args → makes_atom table f args ≡ true
   makes_atom_of a =
       let s = a.sym in
       let h : (is_relation s.kind && are_of_sorts (map (sort_of table) args) s.args) ≡ true =
       and_true (is_relation s.kind) (are_of_sorts (map (sort_of table) args) s.args) (a_relation s.kind a.relation) (ap (λ (rs : List (Option Sort)). are_of_sorts rs s.args) a.sorts ∙ of_sorts_from s.args) in
       rw a.is h
 
-abbrev result_of : SymbolTable → SymId → Option Sort
-result_of table f = option_and_then (λ s. s.result) (symbol_at table f)
+  -- the truth values say the same as the facts: which symbols may be applied, and which make an atom
+  pub application_decided : IsTrue (makes_term table f args) ↔ IsApplication table f args
+  application_decided = (application_of, makes_of)
+
+  pub atom_decided : IsTrue (makes_atom table f args) ↔ IsAtom table f args
+  atom_decided = (atom_of, makes_atom_of)
 
 pub sort_of-application : (table : SymbolTable) (p : Place) (f : SymId) (xs : List Node) → sort_of table (view.App p f xs) ≡ result_of table f
 sort_of-application table p f xs = let e : out-Node (view.App p f xs) ≡ Node-F.App p f xs = search (rules, the_lemmas) in rw e refl

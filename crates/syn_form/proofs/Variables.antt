@@ -18,7 +18,7 @@ use Rattle.syn_form.specs.Quantified.{qform_vars, qform_vars_step}
 use Rattle.syn_form.specs.Trees.{FormTree, QFormTree, all_of, form_terms, form_vars, term_vars, term_vars_step}
 use Rattle.syn_form.proofs.Chains.{IsChain, chain_terms}
 use Rattle.syn_form.proofs.Lists.{Contains-cons_cases, Contains-head, all_of-map, none_in_nil}
-use Rattle.syn_form.specs.Sorted.{IsNoted}
+use Rattle.syn_form.specs.inner.NotedSorts.{IsNoted}
 use Rattle.syn_form.proofs.QForms.{qfold-And, qfold-Or}
 
 -- the pieces that were put are those of the whole

@@ -1,4 +1,4 @@
--- What a syntax tree stands for: names and numbers are looked up, sorts are compared, bound names get numbers, and `A <-> B` becomes
+-- Public. What a syntax tree stands for: names and numbers are looked up, sorts are compared, bound names get numbers, and `A <-> B` becomes
 -- `(A -> B) and (B -> A)`.
 use Rattle.std.specs.Prelude.{ℕ, zero, suc, ◌+◌, Bool, not, ◌&&◌, List, [], ◌∷◌, Option, None, Some, codes, if◌then◌else◌, nat_lt, map, position}
 use Rattle.std.specs.Option.{option_map, option_and_then}

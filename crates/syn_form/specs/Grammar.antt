@@ -1,4 +1,4 @@
--- The grammar of expressions. Each level of precedence is one type, and each production one of its cases; a reading says by
+-- Public. The grammar of expressions. Each level of precedence is one type, and each production one of its cases; a reading says by
 -- which productions a text was made. On a reading stand its words, and its syntax tree.
 use Rattle.std.specs.Prelude.{ℕ, List, [], ◌∷◌, ◌++◌, codes, decimal, map, if◌then◌else◌}
 use Rattle.std.specs.Str.{bytes_eq}

@@ -1,4 +1,4 @@
--- Lists of what may not be there.
+-- Public. Lists of what may not be there.
 use Rattle.std.specs.Prelude.{List, [], ◌∷◌, Option, Some}
 use Rattle.std.specs.Option.{option_map, option_and_then}
 

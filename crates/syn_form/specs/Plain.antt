@@ -1,4 +1,4 @@
--- Plain trees: those that texts stand for. Each symbol has arguments of its sorts, each term has a sort of the table, chains
+-- Public. Plain trees: those that texts stand for. Each symbol has arguments of its sorts, each term has a sort of the table, chains
 -- have two members or more, and no variable number has two sorts.
 use Rattle.std.specs.Prelude.{◌≡◌, ◌≤◌, ◌⊎◌, List, [], ◌++◌, Option, Some, IfSome, All, Contains, map, length}
 use Rattle.std.specs.Option.{option_and_then, option_map_or}

@@ -1,15 +1,15 @@
--- Plain trees with quantifiers: those that texts stand for, in which each quantifier brings a name and a variable of its
+-- Public. Plain trees with quantifiers: those that texts stand for, in which each quantifier brings a name and a variable of its
 -- own.
 use Rattle.std.specs.Prelude.{◌≡◌, ◌≢◌, ℕ, ◌≤◌, List, [], ◌∷◌, ◌++◌, All, map, length}
-use Rattle.std.specs.List.{flat_map, range_with_len}
-use Rattle.syn_term.specs.declared.sorts.Var.{Var}
+use Rattle.std.specs.List.{range_with_len}
 use Rattle.syn_term.specs.Names.{IsName}
 use Rattle.syn_term.specs.Symbols.{SymbolTable, IsSort, IsTaken}
-use Rattle.syn_term.specs.Terms.{TermTree, sort_of}
+use Rattle.syn_term.specs.Terms.{sort_of}
 use Rattle.syn_form.specs.declared.trees.Binder.{Binder}
 use Rattle.syn_form.specs.declared.trees.QForm.{QForm, fold-QForm, every-QForm}
 use Rattle.syn_form.specs.declared.trees.QForm.TheOpen.{QForm-F}
-use Rattle.syn_form.specs.Trees.{QFormTree, all_of, term_vars}
+use Rattle.syn_form.specs.Quantified.{qform_vars}
+use Rattle.syn_form.specs.Trees.{QFormTree, all_of}
 use Rattle.syn_form.specs.Plain.{IsSorted, IsAtom, HasOneSortEach}
 
 abbrev pub binders_step : QForm-F (List Binder) → List Binder
@@ -24,25 +24,6 @@ binders_step _ = []
 -- the binders of its quantifiers, from the left, the outer one first
 abbrev pub binders_of : QFormTree → List Binder
 binders_of = fold-QForm (List Binder) binders_step
-
-abbrev pub qform_terms_step : QForm-F (List TermTree) → List TermTree
-qform_terms_step (QForm-F.Atom r args) = args
-qform_terms_step (QForm-F.Equal s t) = s ∷ t ∷ []
-qform_terms_step (QForm-F.Not a) = a
-qform_terms_step (QForm-F.And all) = all_of all
-qform_terms_step (QForm-F.Or all) = all_of all
-qform_terms_step (QForm-F.Implies a b) = a ++ b
-qform_terms_step (QForm-F.All b a) = a
-qform_terms_step (QForm-F.Exists b a) = a
-qform_terms_step _ = []
-
--- the terms of its atoms and equalities, from the left
-abbrev pub qform_terms : QFormTree → List TermTree
-qform_terms = fold-QForm (List TermTree) qform_terms_step
-
--- the variables that it binds, and those of its terms
-abbrev pub qform_vars : QFormTree → List Var
-qform_vars f = map (λ b. b.var) (binders_of f) ++ flat_map term_vars (qform_terms f)
 
 abbrev PlainQFormNode : SymbolTable → QForm-F QForm → Type 0
 PlainQFormNode table (QForm-F.Atom r args) = IsAtom table r args × All (IsSorted table) args

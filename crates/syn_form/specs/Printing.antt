@@ -1,4 +1,4 @@
--- The one text that is printed for a term, a formula or an output.
+-- Public. The one text that is printed for a term, a formula or an output.
 use Rattle.std.specs.Prelude.{ℕ, ◌+◌, Bool, true, false, cond, List, [], ◌∷◌, ◌++◌, Option, None, Some, codes, decimal, if◌then◌else◌, nat_eq, nat_lt, map, slice_get}
 use Rattle.std.specs.Option.{option_map_or}
 use Rattle.syn_term.specs.declared.sorts.Sort.{Sort}

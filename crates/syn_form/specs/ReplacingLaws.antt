@@ -9,7 +9,7 @@ use Rattle.syn_form.specs.declared.trees.Form.TheViews as view
 use Rattle.syn_form.specs.Trees.{FormTree, form_terms, form_vars}
 use Rattle.syn_form.specs.Same.{same_form}
 use Rattle.syn_form.specs.Plain.{IsFormed, IsPlainForm}
-use Rattle.syn_form.specs.Truth.{Assignment, truth}
+use Rattle.syn_form.specs.Truth.{Assignment, truth_value}
 use Rattle.syn_form.specs.Replacing.{truth_form, replaced_all}
 
 -- What all subformulas that are the same as the part become: one of them is replaced as a whole, and any other formula
@@ -29,7 +29,7 @@ pub record ReplacedParts (part : FormTree) (by : Bool) : Type 0 where
 -- f and g have one truth value; g is plain if f is; and g has no other terms and no other variables than f.
 pub record ReplacesAll (part : FormTree) (by : Bool) (f g : FormTree) : Type 0 where
   pub parts : ReplacedParts part by
-  pub truth : (a : Assignment) → truth a part ≡ by → truth a g ≡ truth a f
+  pub truth : (a : Assignment) → truth_value a part ≡ by → truth_value a g ≡ truth_value a f
   pub formed : (table : SymbolTable) → IsFormed table f → IsFormed table g
   pub plain : (table : SymbolTable) → IsPlainForm table f → IsPlainForm table g
   pub terms : (t : TermTree) → Contains (form_terms g) t → Contains (form_terms f) t

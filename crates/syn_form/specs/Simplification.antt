@@ -1,4 +1,4 @@
--- Simplification from the inside out: what a tree becomes once its parts are simplified.
+-- Public. Simplification from the inside out: what a tree becomes once its parts are simplified.
 use Rattle.std.specs.Prelude.{Bool, not, ◌||◌, List, [], ◌∷◌, ◌++◌, if◌then◌else◌}
 use Rattle.std.specs.List.{list_any, filter, flat_map}
 use Rattle.syn_term.specs.Same.{same_tree}
@@ -79,12 +79,16 @@ negated_layer f _ = view.Not f
 abbrev pub negated : FormTree → FormTree
 negated f = negated_layer f (out-Form f)
 
+-- `A -> B` where neither is `true` or `false`
+abbrev pub implied_open : FormTree → FormTree → FormTree
+implied_open a b = if same_form a b then form.True else view.Implies a b
+
 abbrev pub implied_layer : FormTree → FormTree → Form-F FormTree → Form-F FormTree → FormTree
 implied_layer a b Form-F.True y = b
 implied_layer a b Form-F.False y = form.True
 implied_layer a b x Form-F.True = form.True
 implied_layer a b x Form-F.False = negated a
-implied_layer a b x y = if same_form a b then form.True else view.Implies a b
+implied_layer a b x y = implied_open a b
 
 -- `A -> B`
 abbrev pub implied : FormTree → FormTree → FormTree
@@ -108,10 +112,14 @@ simplified_form_step (Form-F.Implies a b) = implied a b
 abbrev pub simplified_form : FormTree → FormTree
 simplified_form = fold-Form FormTree simplified_form_step
 
+-- `if F then U else V` where F is neither `true` nor `false`
+abbrev pub chosen_open : FormTree → OutTree → OutTree → OutTree
+chosen_open f u v = if same_out u v then u else out_view.If f u v
+
 abbrev pub chosen_layer : FormTree → Form-F FormTree → OutTree → OutTree → OutTree
 chosen_layer f Form-F.True u v = u
 chosen_layer f Form-F.False u v = v
-chosen_layer f _ u v = if same_out u v then u else out_view.If f u v
+chosen_layer f _ u v = chosen_open f u v
 
 -- `if F then U else V`
 abbrev pub chosen : FormTree → OutTree → OutTree → OutTree

@@ -1,4 +1,4 @@
--- Which symbols take which terms, as truth values.
+-- Public. Which symbols take which terms, as truth values.
 use Rattle.std.specs.Prelude.{Bool, true, false, not, ◌&&◌, List, [], ◌∷◌, Option, None, Some, nat_eq, map}
 use Rattle.syn_term.specs.declared.sorts.Sort.{Sort}
 use Rattle.syn_term.specs.declared.sorts.Sort.TheVariants as sort

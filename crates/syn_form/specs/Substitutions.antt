@@ -1,4 +1,4 @@
--- Substitutions, which replace variables by terms in all places at once, and most general unifiers.
+-- Public. Substitutions, which replace variables by terms in all places at once, and most general unifiers.
 use Rattle.std.specs.Prelude.{◌≡◌, Bool, ◌&&◌, List, [], ◌∷◌, Some, Contains, All, if◌then◌else◌, nat_eq, map}
 use Rattle.std.specs.List.{flat_map}
 use Rattle.syn_term.specs.declared.sorts.Var.{Var}

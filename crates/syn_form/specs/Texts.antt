@@ -1,4 +1,4 @@
--- Which tree a text stands for: its words are those of a reading, and what the reading's syntax tree stands for is within
+-- Public. Which tree a text stands for: its words are those of a reading, and what the reading's syntax tree stands for is within
 -- the limits.
 use Rattle.std.specs.Prelude.{◌≡◌, ℕ, ◌≤◌, List, Some, map}
 use Rattle.syn_term.specs.Terms.{TermTree, nodes, depth_of}

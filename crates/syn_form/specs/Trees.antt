@@ -1,4 +1,4 @@
--- Formulas and outputs as trees: their parts, their terms and variables, and their numbers.
+-- Public. Formulas and outputs as trees: their parts, their terms and variables, and their numbers.
 use Rattle.std.specs.Prelude.{ℕ, ◌+◌, max, sum, List, [], ◌∷◌, ◌++◌, map}
 use Rattle.std.specs.List.{flat_map}
 use Rattle.syn_term.specs.declared.sorts.Var.{Var}

@@ -1,4 +1,4 @@
--- Truth of formulas under an assignment of truth values to atoms and equalities, by classical propositional logic.
+-- Public. Truth of formulas under an assignment of truth values to atoms and equalities, by classical propositional logic.
 use Rattle.std.specs.Prelude.{◌≡◌, Bool, true, false, not, ◌||◌, List, map, if◌then◌else◌}
 use Rattle.std.specs.List.{list_all, list_any}
 use Rattle.syn_term.specs.declared.sorts.SymId.{SymId}
@@ -18,23 +18,23 @@ pub record Assignment : Type 0 where
 abbrev pub IsReflexive : Assignment → Type 0
 IsReflexive a = (t : TermTree) → a.equality t t ≡ true
 
-abbrev pub truth_step : Assignment → Form-F Bool → Bool
-truth_step a Form-F.True = true
-truth_step a Form-F.False = false
-truth_step a (Form-F.Atom r args) = a.atom r (map bare args)
-truth_step a (Form-F.Equal s t) = a.equality (bare s) (bare t)
-truth_step a (Form-F.Not x) = not x
-truth_step a (Form-F.And all) = list_all (λ x. x) all
-truth_step a (Form-F.Or all) = list_any (λ x. x) all
-truth_step a (Form-F.Implies x y) = not x || y
+abbrev pub truth_value_step : Assignment → Form-F Bool → Bool
+truth_value_step a Form-F.True = true
+truth_value_step a Form-F.False = false
+truth_value_step a (Form-F.Atom r args) = a.atom r (map bare args)
+truth_value_step a (Form-F.Equal s t) = a.equality (bare s) (bare t)
+truth_value_step a (Form-F.Not x) = not x
+truth_value_step a (Form-F.And all) = list_all (λ x. x) all
+truth_value_step a (Form-F.Or all) = list_any (λ x. x) all
+truth_value_step a (Form-F.Implies x y) = not x || y
 
 -- the truth value of a formula
-abbrev pub truth : Assignment → FormTree → Bool
-truth a = fold-Form Bool (truth_step a)
+abbrev pub truth_value : Assignment → FormTree → Bool
+truth_value a = fold-Form Bool (truth_value_step a)
 
 abbrev pub given_step : Assignment → Out-F TermTree → TermTree
 given_step a (Out-F.Give t) = t
-given_step a (Out-F.If f u v) = if truth a f then u else v
+given_step a (Out-F.If f u v) = if truth_value a f then u else v
 
 -- the term that an output gives
 abbrev pub given : Assignment → OutTree → TermTree

@@ -2,8 +2,8 @@
 ghost use Rattle.std.specs.Prelude.{◌≡◌, ◌↔◌, ◌+◌, ◌++◌, max, min, map, sum, slice_get, IfOk, IsTrue};
 ghost use Rattle.std.specs.Option.{option_map};
 ghost use Rattle.syn_term.specs.Terms.{bare, depth_of, greatest, nodes};
-ghost use Rattle.syn_form.specs.Positions.{formula, part_at, parts_of, piece_at, seen, term};
-ghost use Rattle.syn_form.specs.Same.{OfOneBank};
+ghost use Rattle.syn_form.specs.Positions.{formula, part_at, parts_of, at_position, seen, term};
+ghost use Rattle.syn_form.specs.Same.{OfOneBank, TellsForms};
 ghost use Rattle.syn_form.specs.Trees.{all_of, bare_form, form_depth, form_nodes, form_terms};
 
 use crate::trees::{Form, Part};
@@ -30,14 +30,14 @@ impl Form {
 
     /// What stands at the position, None exactly where the formula has no such position.
     pub fn at(&self, p: &Pos) -> Option<Part<'_>>
-        ensures { option_map seen result ≡ piece_at p.now (formula self.now) }
+        ensures { option_map seen result ≡ at_position p.now (formula self.now) }
     {
         self.find(p.as_slice())
     }
 
     /// What stands at the end of the path.
     fn find(&self, path: &[u32]) -> Option<Part<'_>>
-        ensures { option_map seen result ≡ piece_at path.now (formula self.now) }
+        ensures { option_map seen result ≡ at_position path.now (formula self.now) }
     {
         match path {
             [] => Some(Part::F(self)),
@@ -161,9 +161,20 @@ impl Form {
         }
     }
 
-    /// Whether the two are one tree. It asks that their terms are of one bank.
-    #[cycle(same)]
+    /// Whether the two are one tree. It asks that their terms are of one bank. The law says what the
+    /// truth value by which definitions decide means.
+    #[tactic(auto, using(crate::proofs::Same::tells_forms))]
     pub fn same(&self, other: &Form) -> bool
+        requires { OfOneBank (form_terms self.now ++ form_terms other.now) }
+        ensures tree { IsTrue result ↔ (bare_form self.now ≡ bare_form other.now) }
+        ensures law { TellsForms }
+    {
+        self.is_one(other)
+    }
+
+    /// Whether the two are one tree.
+    #[cycle(same)]
+    fn is_one(&self, other: &Form) -> bool
         requires { OfOneBank (form_terms self.now ++ form_terms other.now) }
         ensures { IsTrue result ↔ (bare_form self.now ≡ bare_form other.now) }
     {
@@ -173,13 +184,13 @@ impl Form {
                 *r == *q && same_terms(xs.get().as_slice(), ys.get().as_slice())
             }
             (Form::Equal(s, t), Form::Equal(u, v)) => s.same(u) && t.same(v),
-            (Form::Not(a), Form::Not(b)) => a.get().same(b.get()),
+            (Form::Not(a), Form::Not(b)) => a.get().is_one(b.get()),
             (Form::And(xs), Form::And(ys)) => {
                 same_forms(xs.get().as_slice(), ys.get().as_slice())
             }
             (Form::Or(xs), Form::Or(ys)) => { same_forms(xs.get().as_slice(), ys.get().as_slice()) }
             (Form::Implies(a, b), Form::Implies(c, d)) => {
-                a.get().same(c.get()) && b.get().same(d.get())
+                a.get().is_one(c.get()) && b.get().is_one(d.get())
             }
             _ => false,
         }
@@ -196,7 +207,7 @@ fn same_forms(fs: &[Form], gs: &[Form]) -> bool
         return false;
     }
     for i in 0..fs.len() {
-        if !fs[i].same(&gs[i]) {
+        if !fs[i].is_one(&gs[i]) {
             return false;
         }
     }
@@ -241,7 +252,7 @@ fn nth_form(forms: &[Form], index: usize) -> Option<Part<'_>>
 
 /// What stands at the end of the path in the term.
 fn find_in_term<'a>(t: &'a Term, path: &[u32]) -> Option<Part<'a>>
-    ensures { option_map seen result ≡ piece_at path.now (term t.now) }
+    ensures { option_map seen result ≡ at_position path.now (term t.now) }
 {
     match path {
         [] => Some(Part::T(t)),

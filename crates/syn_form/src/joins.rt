@@ -3,7 +3,7 @@
 // grows with the square of the number of members of one chain.
 ghost use Rattle.std.specs.Prelude.{◌≡◌, ◌≢◌, [], ◌∷◌, ◌++◌, ◌||◌, IfOk, OnOk, MatchOption, filter};
 ghost use Rattle.syn_form.specs.declared.trees.Form.TheViews as views;
-ghost use Rattle.syn_form.specs.Joining.{joining, stays, terms_of};
+ghost use Rattle.syn_form.specs.inner.Joining.{joining, stays, terms_of};
 ghost use Rattle.syn_form.specs.Same.{OfOneBank, same_form};
 ghost use Rattle.syn_form.specs.Simplification as rules;
 ghost use Rattle.syn_form.specs.Simplification.{has_both, has_form, without_repeats};
@@ -132,12 +132,20 @@ fn contains_both(fs: &[Form]) -> bool
     false
 }
 
+/// Whether the formula is the neutral one, which a chain drops.
+fn is_neutral(j: Junction, f: &Form) -> bool
+    requires { OfOneBank (form_terms f.now) }
+    ensures { result ≡ same_form f.now (rules.neutral (joining j)) }
+{
+    is_same(f, &j.neutral())
+}
+
 /// Adds a formula that is not neutral and not there yet.
 fn push_new(j: Junction, done: &mut Items<Form>, f: &Form) -> Result<(), NoMemory>
     requires { OfOneBank (terms_of done.old ++ form_terms f.now) }
     ensures { OnOk result (done.new ≡ without_repeats done.old (filter (stays (joining j)) (f.now ∷ []))) }
 {
-    if is_same(f, &j.neutral()) {
+    if is_neutral(j, f) {
         return Ok(());
     }
     if contains_form(done.as_slice(), f) {
@@ -181,12 +189,20 @@ fn members_left(alloc: Global, j: Junction, fs: &[Form]) -> Result<Items<Form>, 
     Ok(done)
 }
 
+/// Whether the member that decides a chain is among these.
+fn contains_deciding(j: Junction, fs: &[Form]) -> bool
+    requires { OfOneBank (terms_of fs.now) }
+    ensures { result ≡ has_form fs.now (rules.deciding (joining j)) }
+{
+    contains_form(fs, &j.deciding())
+}
+
 /// Whether the members decide the chain.
 fn is_decided(j: Junction, fs: &[Form]) -> bool
     requires { OfOneBank (terms_of fs.now) }
     ensures { result ≡ (has_form fs.now (rules.deciding (joining j)) || has_both fs.now) }
 {
-    if contains_form(fs, &j.deciding()) {
+    if contains_deciding(j, fs) {
         return true;
     }
     contains_both(fs)

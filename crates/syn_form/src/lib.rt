@@ -17,13 +17,9 @@ mod quantified;
 mod replacing;
 mod signs;
 mod simplifying;
-#[cfg(test)]
-mod simplifying_tests;
 mod sorts;
 mod syntax;
 mod terms;
-#[cfg(test)]
-mod tests;
 mod trees;
 mod vars;
 

@@ -2,7 +2,7 @@
 ghost use Rattle.std.specs.Prelude.{◌≡◌, ◌↔◌, ◌+◌, IsTrue, MatchOption, length};
 ghost use Rattle.std.specs.List.{flat_map};
 ghost use Rattle.syn_form.specs.PlainQuantified.{IsNumbered, binders_of};
-ghost use Rattle.syn_form.specs.Numbers.{AreFrom};
+ghost use Rattle.syn_form.specs.inner.BinderNumbers.{AreFrom};
 
 use crate::trees::{Binder, QForm};
 

@@ -1,6 +1,6 @@
 // The calls on outputs.
 ghost use Rattle.std.specs.Prelude.{◌≡◌, ◌↔◌, ◌+◌, ◌++◌, min, IfOk, IsTrue};
-ghost use Rattle.syn_form.specs.Same.{OfOneBank};
+ghost use Rattle.syn_form.specs.Same.{OfOneBank, TellsOuts};
 ghost use Rattle.syn_form.specs.Trees.{bare_out, out_depth, out_nodes, out_terms};
 
 use crate::form::greater;
@@ -59,8 +59,19 @@ impl Out {
         }
     }
 
-    /// Whether the two are one tree. It asks that their terms are of one bank.
+    /// Whether the two are one tree. It asks that their terms are of one bank. The law says what the
+    /// truth value by which definitions decide means.
+    #[tactic(auto, using(crate::proofs::Same::tells_outs))]
     pub fn same(&self, other: &Out) -> bool
+        requires { OfOneBank (out_terms self.now ++ out_terms other.now) }
+        ensures tree { IsTrue result ↔ (bare_out self.now ≡ bare_out other.now) }
+        ensures law { TellsOuts }
+    {
+        self.is_one(other)
+    }
+
+    /// Whether the two are one tree.
+    fn is_one(&self, other: &Out) -> bool
         requires { OfOneBank (out_terms self.now ++ out_terms other.now) }
         ensures { IsTrue result ↔ (bare_out self.now ≡ bare_out other.now) }
     {
@@ -70,10 +81,10 @@ impl Out {
                 if !f.get().same(g.get()) {
                     return false;
                 }
-                if !u.get().same(x.get()) {
+                if !u.get().is_one(x.get()) {
                     return false;
                 }
-                v.get().same(y.get())
+                v.get().is_one(y.get())
             }
             _ => false,
         }

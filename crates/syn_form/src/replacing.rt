@@ -1,6 +1,6 @@
 // Formulas with some of their subformulas replaced by a truth value.
 ghost use Rattle.std.specs.Prelude.{◌≡◌, ◌++◌, map, IfOk};
-ghost use Rattle.syn_form.specs.Joining.{terms_of};
+ghost use Rattle.syn_form.specs.inner.Joining.{terms_of};
 ghost use Rattle.syn_form.specs.Replacing.{replaced_all, truth_form};
 ghost use Rattle.syn_form.specs.ReplacingLaws.{ReplacesAll};
 ghost use Rattle.syn_form.specs.Same.{OfOneBank};

@@ -1,8 +1,10 @@
 // Simplification from the inside out: the parts of a tree first, then the tree by the shape of its
 // parts.
-ghost use Rattle.std.specs.Prelude.{◌≡◌, [], ◌∷◌, ◌++◌, IfOk};
+ghost use Rattle.std.specs.Prelude.{◌≡◌, [], ◌∷◌, ◌++◌, map, IfOk};
+ghost use Rattle.syn_form.specs.inner.Joining.{joining, terms_of};
 ghost use Rattle.syn_term.specs.Same.{same_tree};
 ghost use Rattle.syn_form.specs.Same.{OfOneBank, same_out};
+ghost use Rattle.syn_form.specs.declared.trees.Out.TheViews as views;
 ghost use Rattle.syn_form.specs.Simplification as rules;
 ghost use Rattle.syn_form.specs.Simplification.{simplified_form, simplified_out};
 ghost use Rattle.syn_form.specs.SimplificationLaws.{SimplifiesForm, SimplifiesOut};
@@ -15,14 +17,14 @@ use std::alloc::Global;
 use syn_term::{NoMemory, Shared, Term};
 
 /// `not f`.
-fn negated(alloc: Global, f: Form) -> Result<Form, NoMemory>
-    ensures { IfOk result (λ g. g ≡ rules.negated f) }
+fn negated(alloc: Global, f: &Form) -> Result<Form, NoMemory>
+    ensures { IfOk result (λ g. g ≡ rules.negated f.now) }
 {
     match f {
         Form::True => Ok(Form::False),
         Form::False => Ok(Form::True),
         Form::Not(part) => part.get().again(),
-        other => Ok(Form::Not(Shared::new(alloc, other)?)),
+        _ => Ok(Form::Not(Shared::new(alloc, f.again()?)?)),
     }
 }
 
@@ -45,26 +47,34 @@ fn equated(s: &Term, t: &Term) -> Result<Form, NoMemory>
     Ok(Form::Equal(s.again()?, t.again()?))
 }
 
+/// `a -> b`, where neither is `true` or `false`.
+fn open_implication(alloc: Global, a: &Form, b: &Form) -> Result<Form, NoMemory>
+    requires { OfOneBank (form_terms a.now ++ form_terms b.now) }
+    ensures { IfOk result (λ f. f ≡ rules.implied_open a.now b.now) }
+{
+    if is_same(a, b) {
+        return Ok(Form::True);
+    }
+    let a = Shared::new(alloc, a.again()?)?;
+    Ok(Form::Implies(a, Shared::new(alloc, b.again()?)?))
+}
+
 /// `a -> b`.
-fn implied(alloc: Global, a: Form, b: Form) -> Result<Form, NoMemory>
-    requires { OfOneBank (form_terms a ++ form_terms b) }
-    ensures { IfOk result (λ f. f ≡ rules.implied a b) }
+fn implied(alloc: Global, a: &Form, b: &Form) -> Result<Form, NoMemory>
+    requires { OfOneBank (form_terms a.now ++ form_terms b.now) }
+    ensures { IfOk result (λ f. f ≡ rules.implied a.now b.now) }
 {
     match (a, b) {
-        (Form::True, b) => Ok(b),
+        (Form::True, _) => b.again(),
         (Form::False, _) => Ok(Form::True),
         (_, Form::True) => Ok(Form::True),
-        (a, Form::False) => negated(alloc, a),
-        (a, b) => {
-            if is_same(&a, &b) {
-                return Ok(Form::True);
-            }
-            Ok(Form::Implies(Shared::new(alloc, a)?, Shared::new(alloc, b)?))
-        }
+        (_, Form::False) => negated(alloc, a),
+        _ => open_implication(alloc, a, b),
     }
 }
 
 /// The formula, each part first.
+#[cycle(simple)]
 fn simple(alloc: Global, f: &Form) -> Result<Form, NoMemory>
     requires { OfOneBank (form_terms f.now) }
     ensures { IfOk result (λ g. g ≡ simplified_form f.now) }
@@ -74,27 +84,50 @@ fn simple(alloc: Global, f: &Form) -> Result<Form, NoMemory>
         Form::False => Ok(Form::False),
         Form::Atom(_, _) => f.again(),
         Form::Equal(s, t) => equated(s, t),
-        Form::Not(a) => negated(alloc, simple(alloc, a.get())?),
-        Form::Implies(a, b) => {
-            let a = simple(alloc, a.get())?;
-            let b = simple(alloc, b.get())?;
-            implied(alloc, a, b)
-        }
-        Form::And(all) => {
-            let mut parts = Items::new(alloc);
-            for part in all.get().as_slice() {
-                parts.push(simple(alloc, part)?)?;
-            }
-            joined(alloc, Junction::And, parts.as_slice())
-        }
-        Form::Or(all) => {
-            let mut parts = Items::new(alloc);
-            for part in all.get().as_slice() {
-                parts.push(simple(alloc, part)?)?;
-            }
-            joined(alloc, Junction::Or, parts.as_slice())
+        Form::Not(a) => simple_negation(alloc, a.get()),
+        Form::Implies(a, b) => simple_implication(alloc, a.get(), b.get()),
+        Form::And(all) => simple_chain(alloc, Junction::And, all.get().as_slice()),
+        Form::Or(all) => simple_chain(alloc, Junction::Or, all.get().as_slice()),
+    }
+}
+
+/// The negation of the formula, that first.
+#[cycle(simple)]
+fn simple_negation(alloc: Global, part: &Form) -> Result<Form, NoMemory>
+    requires { OfOneBank (form_terms part.now) }
+    ensures { IfOk result (λ g. g ≡ rules.negated (simplified_form part.now)) }
+{
+    let part = simple(alloc, part)?;
+    negated(alloc, &part)
+}
+
+/// The implication, each side first.
+#[cycle(simple)]
+fn simple_implication(alloc: Global, a: &Form, b: &Form) -> Result<Form, NoMemory>
+    requires { OfOneBank (form_terms a.now ++ form_terms b.now) }
+    ensures { IfOk result (λ g. g ≡ rules.implied (simplified_form a.now) (simplified_form b.now)) }
+{
+    let a = simple(alloc, a)?;
+    match simple(alloc, b) {
+        Ok(b) => implied(alloc, &a, &b),
+        other => {
+            drop(a);
+            other
         }
     }
+}
+
+/// The chain, each member first.
+#[cycle(simple)]
+fn simple_chain(alloc: Global, j: Junction, all: &[Form]) -> Result<Form, NoMemory>
+    requires { OfOneBank (terms_of all.now) }
+    ensures { IfOk result (λ g. g ≡ rules.joined (joining j) (map simplified_form all.now)) }
+{
+    let mut parts = Items::new(alloc);
+    for part in all {
+        parts.push(simple(alloc, part)?)?;
+    }
+    joined(alloc, j, parts.as_slice())
 }
 
 /// Whether the two outputs are one tree.
@@ -105,40 +138,86 @@ fn is_same_out(u: &Out, v: &Out) -> bool
     u.same(v)
 }
 
+/// The choice as it is.
+fn kept_choice(alloc: Global, f: &Form, u: &Out, v: &Out) -> Result<Out, NoMemory>
+    ensures { IfOk result (λ o. o ≡ views.If f.now u.now v.now) }
+{
+    let f = Shared::new(alloc, f.again()?)?;
+    let u = Shared::new(alloc, u.again()?)?;
+    Ok(Out::If(f, u, Shared::new(alloc, v.again()?)?))
+}
+
+/// `if f then u else v`, where f is neither `true` nor `false`.
+fn open_choice(alloc: Global, f: &Form, u: &Out, v: &Out) -> Result<Out, NoMemory>
+    requires { OfOneBank (out_terms u.now ++ out_terms v.now) }
+    ensures { IfOk result (λ o. o ≡ rules.chosen_open f.now u.now v.now) }
+{
+    if is_same_out(u, v) {
+        return u.again();
+    }
+    kept_choice(alloc, f, u, v)
+}
+
 /// `if f then u else v`.
-fn chosen(alloc: Global, f: Form, u: Out, v: Out) -> Result<Out, NoMemory>
-    requires { OfOneBank (out_terms u ++ out_terms v) }
-    ensures { IfOk result (λ o. o ≡ rules.chosen f u v) }
+fn chosen(alloc: Global, f: &Form, u: &Out, v: &Out) -> Result<Out, NoMemory>
+    requires { OfOneBank (out_terms u.now ++ out_terms v.now) }
+    ensures { IfOk result (λ o. o ≡ rules.chosen f.now u.now v.now) }
 {
     match f {
-        Form::True => Ok(u),
-        Form::False => Ok(v),
-        f => {
-            if is_same_out(&u, &v) {
-                return Ok(u);
-            }
-            Ok(Out::If(
-                Shared::new(alloc, f)?,
-                Shared::new(alloc, u)?,
-                Shared::new(alloc, v)?,
-            ))
+        Form::True => u.again(),
+        Form::False => v.again(),
+        _ => open_choice(alloc, f, u, v),
+    }
+}
+
+/// `if f then u else v` for arms that are simplified already, the test first.
+fn tested(alloc: Global, f: &Form, u: Out, v: Out) -> Result<Out, NoMemory>
+    requires test { OfOneBank (form_terms f.now) }
+    requires arms { OfOneBank (out_terms u ++ out_terms v) }
+    ensures { IfOk result (λ o. o ≡ rules.chosen (simplified_form f.now) u v) }
+{
+    match simple(alloc, f) {
+        Ok(f) => {
+            let choice = chosen(alloc, &f, &u, &v);
+            drop(f);
+            drop(u);
+            drop(v);
+            choice
+        }
+        Err(error) => {
+            drop(u);
+            drop(v);
+            Err(error)
+        }
+    }
+}
+
+/// The choice, its arms and its test first.
+#[cycle(outs)]
+fn simple_choice(alloc: Global, f: &Form, u: &Out, v: &Out) -> Result<Out, NoMemory>
+    requires test { OfOneBank (form_terms f.now) }
+    requires arms { OfOneBank (out_terms u.now ++ out_terms v.now) }
+    ensures { IfOk result (λ o. o ≡ rules.chosen (simplified_form f.now) (simplified_out u.now) (simplified_out v.now)) }
+{
+    let u = simple_out(alloc, u)?;
+    match simple_out(alloc, v) {
+        Ok(v) => tested(alloc, f, u, v),
+        other => {
+            drop(u);
+            other
         }
     }
 }
 
 /// The output, its tests and arms first.
+#[cycle(outs)]
 fn simple_out(alloc: Global, o: &Out) -> Result<Out, NoMemory>
     requires { OfOneBank (out_terms o.now) }
     ensures { IfOk result (λ p. p ≡ simplified_out o.now) }
 {
     match o {
         Out::Give(_) => o.again(),
-        Out::If(f, u, v) => {
-            let f = simple(alloc, f.get())?;
-            let u = simple_out(alloc, u.get())?;
-            let v = simple_out(alloc, v.get())?;
-            chosen(alloc, f, u, v)
-        }
+        Out::If(f, u, v) => simple_choice(alloc, f.get(), u.get(), v.get()),
     }
 }
 

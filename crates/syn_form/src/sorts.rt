@@ -6,7 +6,7 @@ ghost use Rattle.syn_term.specs.declared.sorts.Kind.TheVariants as kinds;
 ghost use Rattle.syn_form.specs.Plain as plain;
 ghost use Rattle.syn_form.specs.Plain.{IsAtom, IsKnownSort, result_of};
 ghost use Rattle.syn_form.specs.Sorts as sorts;
-ghost use Rattle.syn_form.specs.Heads.{head_sort};
+ghost use Rattle.syn_form.specs.inner.Heads.{head_sort};
 
 use crate::trees::Out;
 use syn_term::{Head, Kind, Sort, SymId, Symbols, Term};

@@ -5,7 +5,7 @@ ghost use Rattle.indexmap.specs.IndexMap.{get};
 ghost use Rattle.syn_form.specs.Plain.{HasOneSortEach};
 ghost use Rattle.syn_form.specs.Quantified.{qform_vars};
 ghost use Rattle.syn_form.specs.Trees.{form_vars, out_vars, term_vars};
-ghost use Rattle.syn_form.specs.Sorted.{IsNoted};
+ghost use Rattle.syn_form.specs.inner.NotedSorts.{IsNoted};
 
 use crate::sorts::same_sort;
 use crate::trees::{Form, Out, QForm};

@@ -1,9 +1,9 @@
 pub mod OnePlace
-pub mod LineSteps
-pub mod OneSplit
+pub mod OneCut
 pub mod Runs
 pub mod Window
 pub mod TokenSteps
 pub mod OneAnswer
 pub mod Spelling
-pub mod Whole
+pub mod Comments
+pub mod ByGrammar

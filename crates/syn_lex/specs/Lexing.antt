@@ -1,18 +1,69 @@
--- The tokens of a line, by their places: which tokens a line has, and which byte is the first that begins nothing.
-use Rattle.std.specs.Prelude.{◌≡◌, ℕ, ◌+◌, ◌-◌, ◌<◌, ◌≤◌, List, [], ◌∷◌, length, drop, take, map}
-use Rattle.syn_term.specs.Tokens.{Begins, gap, over, bad, token, starts, Word, IsToken, IsLongest}
+-- Public. The tokens of a line, by their places: which tokens a line has, and which byte is the first that begins nothing.
+-- First by the grammar of tokens alone, then by the scanner's own account.
+use Rattle.std.specs.Prelude.{◌≡◌, ℕ, ◌+◌, ◌-◌, ◌<◌, ◌≤◌, ◌⊎◌, List, [], ◌∷◌, IsTrue, length, drop, take, get_or, map}
+use Rattle.std.specs.Str.{byte, IsUtf8}
+use Rattle.syn_term.specs.Tokens.{gap, over, bad, token, starts, is_blank, Word, IsToken, IsCutOff, IsLongest, BeginsNothing}
+use Rattle.syn_lex.specs.TextLines.{Without}
 use Rattle.syn_lex.specs.declared.token.Token.{Token}
-use Rattle.syn_lex.specs.declared.token.What.{What}
-use Rattle.syn_lex.specs.declared.token.What.TheVariants as what
 use Rattle.syn_lex.specs.declared.token.LexError.{LexError}
 use Rattle.syn_lex.specs.declared.token.LexError.TheVariants as error
 
--- What the scanner finds at a place, as the grammar names it.
-abbrev pub seen : What → Begins
-seen what.Gap = gap
-seen what.Over = over
-seen (what.Bad n) = bad n
-seen (what.Token k n) = token k n
+-- The bytes of a token in its line.
+abbrev pub bytes_of : List ℕ → Token → List ℕ
+bytes_of line t = take (t.to - t.from) (drop t.from line)
+
+-- The token lies in the line; its bytes are a token of its kind and not cut off; and no longer front of what stands at its
+-- place is a whole token of any kind.
+pub record IsLongestToken (line : List ℕ) (t : Token) : Type 0 where
+  pub some : t.from < t.to
+  pub within : t.to ≤ length line
+  pub token : IsToken t.kind (bytes_of line t)
+  pub whole : ¬ (IsCutOff t.kind (drop t.from line) (t.to - t.from))
+  pub longest : IsLongest (drop t.from line) (t.to - t.from)
+
+-- Each byte from here to before the end is a space, a tab or a carriage return.
+abbrev pub Blanks : List ℕ → ℕ → ℕ → Type 0
+Blanks line at end = (q : ℕ) → at ≤ q → q < end → IsTrue (is_blank (get_or line q 0))
+
+-- From here to the end these tokens stand in order, each the longest at its place, with blanks alone between.
+abbrev pub Stand : List ℕ → ℕ → List Token → ℕ → Type 0
+Stand line at [] end = (at ≤ end) × Blanks line at end
+Stand line at (t ∷ ts) end = (at ≤ t.from) × Blanks line at t.from × IsLongestToken line t × Stand line t.to ts end
+
+-- UTF-8 without a line feed.
+abbrev pub IsCommentText : List ℕ → Type 0
+IsCommentText bytes = IsUtf8 bytes × Without 10 bytes
+
+-- A comment, up to the end of the line.
+pub record IsComment (rest : List ℕ) : Type 0 where
+  pub begins : get_or rest 0 0 ≡ byte "#"
+  pub text : IsCommentText rest
+
+-- A comment that breaks off behind n bytes, since the next is a line feed or no part of UTF-8.
+pub record IsBrokenComment (rest : List ℕ) (n : ℕ) : Type 0 where
+  pub begins : get_or rest 0 0 ≡ byte "#"
+  pub text : IsCommentText (take n rest)
+  pub breaks : (m : ℕ) → n < m → m ≤ length rest → ¬ (IsCommentText (take m rest))
+
+-- The line is these tokens, with blanks alone between, and behind them nothing or a comment.
+pub record IsTokens (line : List ℕ) (ts : List Token) : Type 0 where
+  pub end : ℕ
+  pub before : Stand line 0 ts end
+  pub behind : (drop end line ≡ []) ⊎ IsComment (drop end line)
+
+-- The byte at p is the first that begins nothing: tokens and blanks stand before it, and either no blank, comment or whole
+-- token begins with it, or a comment breaks off before it.
+pub record IsFirstBadByte (line : List ℕ) (p : ℕ) : Type 0 where
+  pub within : p < length line
+  pub tokens : List Token
+  pub end : ℕ
+  pub before : Stand line 0 tokens end
+  pub bad : ((p ≡ end) × BeginsNothing (drop end line)) ⊎ ((end ≤ p) × IsBrokenComment (drop end line) (p - end))
+
+-- Why a line is refused, by the grammar.
+abbrev pub Faulty : List ℕ → LexError → Type 0
+Faulty line (error.At p) = IsFirstBadByte line p
+Faulty line error.NoMemory = Unit {0}
 
 -- All places from here to before the end are blanks.
 abbrev pub Blank : List ℕ → ℕ → ℕ → Type 0
@@ -37,22 +88,11 @@ abbrev pub Refused : List ℕ → LexError → Type 0
 Refused line (error.At p) = Stuck line p
 Refused line error.NoMemory = Unit {0}
 
--- What begins here ends within the line.
-abbrev pub Within : List ℕ → Begins → Type 0
-Within rest gap = 0 < length rest
-Within rest over = Unit {0}
-Within rest (bad n) = n < length rest
-Within rest (token k n) = (0 < n) × (n ≤ length rest)
-
 -- A line has one answer at most: one list of tokens, or one place that begins nothing.
 pub record OneAnswer (line : List ℕ) : Type 0 where
   pub tokens : (ts us : List Token) → Lexed line ts → Lexed line us → ts ≡ us
   pub apart : (ts : List Token) (p : ℕ) → Lexed line ts → Stuck line p → ⊥
   pub place : (p q : ℕ) → Stuck line p → Stuck line q → p ≡ q
-
--- The bytes of a token in its line.
-abbrev pub bytes_of : List ℕ → Token → List ℕ
-bytes_of line t = take (t.to - t.from) (drop t.from line)
 
 -- A token by itself, as a word of the line: its kind and its bytes.
 abbrev pub word_of : List ℕ → Token → Word
@@ -61,8 +101,3 @@ word_of line t = record { kind = t.kind; bytes = bytes_of line t }
 -- The tokens as words of the line.
 abbrev pub words_of : List ℕ → List Token → List Word
 words_of line = map (word_of line)
-
--- The bytes of the token are a token of its kind, and the longest at its place.
-pub record IsWhole (line : List ℕ) (t : Token) : Type 0 where
-  pub token : IsToken t.kind (bytes_of line t)
-  pub longest : IsLongest (drop t.from line) (t.to - t.from)

@@ -1,13 +1,12 @@
 // What begins at a place of a line. The first byte tells the kind of a token, and one function for
 // each kind tells its length; 0 says that none begins.
 ghost use Rattle.std.specs.Prelude.{◌≡◌, ◌≤◌, ◌<◌, length};
-ghost use Rattle.std.specs.Str.Lossy.{utf8_valid_len};
 ghost use Rattle.syn_term.specs.Tokens as tokens;
-ghost use Rattle.syn_lex.specs.Lexing.{seen, Within};
+ghost use Rattle.syn_lex.specs.inner.Finding.{seen, Within};
 
 use crate::token::What;
 use crate::words::{
-    after, byte_at, counted_len, name_len, number_len, sort_len, stop_len, tag_len, text_len,
+    after, byte_at, comment_len, counted_len, name_len, number_len, sort_len, stop_len, tag_len,
 };
 use syn_term::TokenKind;
 
@@ -106,10 +105,10 @@ fn is_blank(b: u8) -> bool
 }
 
 fn comment(rest: &[u8]) -> What
-    ensures value { seen result ≡ tokens.comment rest.now (utf8_valid_len rest.now) }
+    ensures value { seen result ≡ tokens.comment rest.now (tokens.comment_len rest.now) }
     ensures within { Within rest.now (seen result) }
 {
-    let n = text_len(rest);
+    let n = comment_len(rest);
     if n == rest.len() {
         What::Over
     } else {

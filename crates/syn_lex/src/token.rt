@@ -14,7 +14,8 @@ pub struct Token {
 /// Why a line has no tokens.
 #[derive(Clone, Copy, Debug, PartialEq, Eq)]
 pub enum LexError {
-    /// The place of the first byte that begins no token, blank or comment.
+    /// The place of the first byte that begins no token, blank or comment; behind a `#` that is the
+    /// first line feed or the first byte that is no part of UTF-8.
     At(u64),
     /// Memory was refused.
     NoMemory,

@@ -48,7 +48,7 @@ fn at_most(limit: usize, n: usize) -> usize
 }
 
 /// How many bytes at the front are UTF-8.
-pub(crate) fn text_len(bytes: &[u8]) -> usize
+fn text_len(bytes: &[u8]) -> usize
     ensures value { result ≡ utf8_valid_len bytes.now }
     ensures within { result ≤ length bytes.now }
     ensures text { IsUtf8 (take result bytes.now) }
@@ -57,6 +57,23 @@ pub(crate) fn text_len(bytes: &[u8]) -> usize
         Ok(_) => bytes.len(),
         Err(fault) => fault.valid_up_to(),
     }
+}
+
+/// How many bytes stand before the first line feed, or up to the end.
+fn line_len(rest: &[u8]) -> usize
+    ensures value { result ≡ tokens.line_len rest.now }
+    ensures within { result ≤ length rest.now }
+{
+    rest.iter().take_while(|b| **b != b'\n').count()
+}
+
+/// The length of the comment at the front.
+#[tactic(auto, unfolding(syn_term::specs::Tokens::comment_len))]
+pub(crate) fn comment_len(rest: &[u8]) -> usize
+    ensures value { result ≡ tokens.comment_len rest.now }
+    ensures within { result ≤ length rest.now }
+{
+    text_len(front(rest, line_len(rest)))
 }
 
 fn run_len(text: &str) -> usize

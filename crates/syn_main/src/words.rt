@@ -1,33 +1,21 @@
-// The words of the process, as texts. The runtime gives all arguments or none, so one that is not
-// text refuses the whole command.
-ghost use Rattle.std.specs.Prelude.{◌≡◌, ◌↔◌, ◌⊎◌, Err, IfOk, OnErr, drop};
+// The words of the process: its arguments behind the first, which is the program's name. The runtime
+// gives all arguments or none, so one that is not text refuses the whole command.
+ghost use Rattle.std.specs.Prelude.{◌≡◌, ◌++◌, IfOk, drop};
+ghost use Rattle.syn_main.specs.Ending as ending;
 
-use std::alloc::Global;
-use std::env::{self, Args};
+use std::alloc::{AllocError, Global};
+use std::env::Args;
 use std::io::ErrorKind;
-use std::rt::Env;
 use syn_app::Status;
 
-/// The words after the program's name. The errors are `Words`, where a word is not text, and
-/// `NoMemory`.
-pub fn words_of<R: AllocGlobal + Env>(rt: &R) -> Result<Vec<String>, Status>
-    ensures { OnErr result ((result ≡ Err Status.Words) ⊎ (result ≡ Err Status.NoMemory)) }
-{
-    match env::args(rt) {
-        Ok(args) => words_in(rt.alloc(), args),
-        Err(error) => Err(refusal(error.kind())),
-    }
-}
-
-/// The words among the arguments.
-fn words_in(alloc: Global, args: Args) -> Result<Vec<String>, Status>
-    ensures words { IfOk result (λ list. list.items ≡ drop 1 args.rest.items) }
-    ensures err { OnErr result (result ≡ Err Status.NoMemory) }
+/// The words among the arguments. The one error is want of memory.
+pub fn words_in(alloc: Global, args: Args) -> Result<Vec<String>, AllocError>
+    ensures { IfOk result (λ list. list.items ≡ drop 1 args.rest.items) }
 {
     listed(alloc, after_name(args))
 }
 
-/// The arguments after the first, which is the program's name.
+/// The arguments after the first.
 fn after_name(args: Args) -> Args
     ensures { result.rest.items ≡ drop 1 args.rest.items }
 {
@@ -37,23 +25,19 @@ fn after_name(args: Args) -> Args
 }
 
 /// The texts as a list.
-fn listed(alloc: Global, texts: Args) -> Result<Vec<String>, Status>
-    ensures words { IfOk result (λ list. list.items ≡ texts.rest.items) }
-    ensures err { OnErr result (result ≡ Err Status.NoMemory) }
+fn listed(alloc: Global, texts: Args) -> Result<Vec<String>, AllocError>
+    ensures { IfOk result (λ list. list.items ≡ texts.rest.items) }
 {
     let mut list = Vec::new(alloc);
     for text in texts {
-        if list.push(text).is_err() {
-            return Err(Status::NoMemory);
-        }
+        list.push(text)?;
     }
     Ok(list)
 }
 
-/// The status that stands for words that the runtime could not give.
-fn refusal(kind: ErrorKind) -> Status
-    ensures memory { (result ≡ Status.NoMemory) ↔ (kind ≡ ErrorKind.OutOfMemory) }
-    ensures words { (result ≡ Status.Words) ⊎ (result ≡ Status.NoMemory) }
+/// The status that stands for arguments that the runtime could not give.
+pub fn refusal(kind: ErrorKind) -> Status
+    ensures { result ≡ ending.refusal kind }
 {
     match kind {
         ErrorKind::OutOfMemory => Status::NoMemory,

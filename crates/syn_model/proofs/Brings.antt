@@ -7,7 +7,7 @@ use Rattle.syn_term.specs.Symbols.{SymbolTable, MayAdd, with_symbol}
 use Rattle.syn_term.specs.Terms.{TermTree}
 use Rattle.syn_model.specs.declared.decl.Decl.{Decl}
 use Rattle.syn_model.specs.declared.decl.Decl.TheVariants as decl
-use Rattle.syn_model.specs.Parts.{MayBring, Steps}
+use Rattle.syn_model.specs.Theories.{MayBring, Steps}
 use Rattle.syn_model.specs.Tables.{order_symbol, rel_symbol, table_after}
 
 module _ (before after : SymbolTable) (r : Result Bool NoMemory) where

@@ -26,7 +26,7 @@ over_args b vars ws those args is same t = subst (λ (z : List Var). IsTrue b �
 
 -- the name's symbol, and where the body of the next clause may use it
 abbrev pub IsOwn : List Decl → List TermTree → SymbolTable → List ℕ → SymId → Option Rest → Type 0
-IsOwn ds args table name own rest = (symbol_of_name table name ≡ Some own) × (turn_of table (heading_of ds).clauses args ≡ Some rest)
+IsOwn ds args table name own rest = (symbol_of_name table name ≡ Some own) × (turn_of table (heading_of ds).arguments args ≡ Some rest)
 
 own_same : (table : SymbolTable) (m n : List ℕ) (f g : SymId) → m ≡ n → symbol_of_name table m ≡ Some f → symbol_of_name table n ≡ Some g → f ≡ g
 own_same table m n f g is a b = let e : Some f ≡ Some g = sym a ∙ (ap (symbol_of_name table) is ∙ b) in cc

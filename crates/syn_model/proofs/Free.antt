@@ -15,7 +15,8 @@ use Rattle.syn_form.specs.Sorts.{same_sort}
 use Rattle.syn_form.specs.Substitutions.{same_var}
 use Rattle.syn_form.specs.Trees.{QFormTree, term_vars}
 use Rattle.syn_form.proofs.Lists.{Contains-cons_cases, Contains-head, Contains-tail, all_of-map, none_in_nil}
-use Rattle.syn_model.specs.Declaring.{AreAmong, free_vars, free_vars_step, without}
+use Rattle.syn_form.specs.Quantified.{free_vars, free_vars_step, without}
+use Rattle.syn_model.specs.Declaring.{AreAmong}
 use Rattle.syn_model.proofs.Over.{all_along, all_of_none, all_of_pieces, all_of_two}
 use Rattle.syn_form.proofs.QForms.{qfold-True, qfold-False, qfold-Atom, qfold-Equal, qfold-Not, qfold-And, qfold-Or, qfold-Implies, qfold-All, qfold-Exists}
 

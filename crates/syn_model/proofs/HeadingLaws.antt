@@ -10,13 +10,13 @@ use Rattle.syn_model.specs.declared.decl.Decl.{Decl}
 use Rattle.syn_model.specs.declared.decl.Decl.TheVariants as decl
 use Rattle.syn_model.specs.Declaring.{is_clause}
 use Rattle.syn_model.specs.Headings.{Heading, are_all, heading_after, heading_of}
-use Rattle.syn_model.specs.Views.{IsClause, clause_args}
+use Rattle.syn_model.specs.inner.Views.{IsClause, clause_args}
 
 abbrev with_clauses : Heading → List (List TermTree) → Heading
-with_clauses h clauses = record { declared = h.declared; clauses = h.clauses ++ clauses }
+with_clauses h clauses = record { declared = h.declared; arguments = h.arguments ++ clauses }
 
 abbrev alone : Decl → List (List TermTree) → Heading
-alone d clauses = record { declared = Some d; clauses = clauses }
+alone d clauses = record { declared = Some d; arguments = clauses }
 
 -- a clause has arguments
 pub clause_one : (d : Decl) → IsClause d → (args : List TermTree) × (clause_args d ≡ args ∷ [])
@@ -35,15 +35,15 @@ after_other h (decl.RelClause args body) c = absurd (true≢false c)
 after_other h _ c = refl
 
 after_clauses : (h : Heading) (ds : List Decl) → All IsClause ds → fold heading_after h ds ≡ with_clauses h (flat_map clause_args ds)
-after_clauses h [] all = ap (λ (z : List (List TermTree)). record { declared = h.declared; clauses = z }) (sym (append-nil h.clauses))
+after_clauses h [] all = ap (λ (z : List (List TermTree)). record { declared = h.declared; arguments = z }) (sym (append-nil h.arguments))
 after_clauses h (d ∷ ds) all =
-    ap (λ (z : Heading). fold heading_after z ds) (after_clause h d (All-head IsClause d ds all)) ∙ (after_clauses (with_clauses h (clause_args d)) ds (All-tail IsClause d ds all) ∙ ap (λ (z : List (List TermTree)). record { declared = h.declared; clauses = z }) (append_assoc h.clauses (clause_args d) (flat_map clause_args ds)))
+    ap (λ (z : Heading). fold heading_after z ds) (after_clause h d (All-head IsClause d ds all)) ∙ (after_clauses (with_clauses h (clause_args d)) ds (All-tail IsClause d ds all) ∙ ap (λ (z : List (List TermTree)). record { declared = h.declared; arguments = z }) (append_assoc h.arguments (clause_args d) (flat_map clause_args ds)))
 
 abbrev nothing : Heading
-nothing = record { declared = None; clauses = [] }
+nothing = record { declared = None; arguments = [] }
 
 -- where all declarations are clauses, there is no heading
-pub no_heading : (ds : List Decl) (n : ℕ) → n ≡ 0 → All IsClause (drop n ds) → record { declared = None; clauses = flat_map clause_args ds } ≡ heading_of ds
+pub no_heading : (ds : List Decl) (n : ℕ) → n ≡ 0 → All IsClause (drop n ds) → record { declared = None; arguments = flat_map clause_args ds } ≡ heading_of ds
 no_heading ds n e all = sym (after_clauses nothing ds (subst (λ (k : ℕ). All IsClause (drop k ds)) e all))
 
 -- behind the last declaration that is no clause stand its clauses

@@ -8,7 +8,7 @@ use Rattle.std.proofs.lemmas.List.{take-append-drop}
 use Rattle.syn_term.specs.declared.sorts.Var.{Var}
 use Rattle.syn_term.specs.Terms.{TermTree}
 use Rattle.syn_form.specs.Trees.{term_vars}
-use Rattle.syn_model.specs.Views.{numbered_from}
+use Rattle.syn_model.specs.inner.Views.{numbered_from}
 use Rattle.syn_model.proofs.TurnLaws.{vars_more}
 
 and_then_if : (b : Bool) (f : ℕ → Option ℕ) (o : Option ℕ) → (if b then option_and_then f o else None) ≡ option_and_then f (if b then o else None)

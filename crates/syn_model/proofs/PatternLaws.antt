@@ -5,8 +5,9 @@ use Rattle.syn_term.specs.declared.sorts.Head.{Head}
 use Rattle.syn_term.specs.declared.sorts.Head.TheVariants as head
 use Rattle.syn_term.specs.Terms.{TermTree, head_of}
 use Rattle.syn_model.specs.declared.patterns.Patterns.{Patterns}
-use Rattle.syn_model.specs.Headings.{Pattern, pattern_at, patterns_from, patterns_of}
-use Rattle.syn_model.specs.Views.{counted, counted_next}
+use Rattle.syn_model.specs.declared.patterns.Pattern.{Pattern}
+use Rattle.syn_model.specs.Headings.{pattern_at, patterns_from, patterns_of}
+use Rattle.syn_model.specs.inner.Views.{counted, counted_next}
 
 -- the patterns of one argument more
 patterns_more : (n : ℕ) (ts : List TermTree) (t : TermTree) → patterns_from n (ts ++ t ∷ []) ≡ patterns_from n ts ++ pattern_at (n + length ts) (head_of t)

@@ -15,7 +15,7 @@ use Rattle.syn_form.specs.Trees.{term_vars, term_vars_step}
 use Rattle.syn_form.proofs.Lists.{all_of-map}
 use Rattle.syn_model.specs.declared.decl.Decl.{Decl}
 use Rattle.syn_model.specs.Clauses.{last_var, turn_of}
-use Rattle.syn_model.specs.Views.{IsClause, clause_args, later}
+use Rattle.syn_model.specs.inner.Views.{IsClause, clause_args, later}
 use Rattle.syn_model.proofs.HeadingLaws.{clause_one}
 
 -- the variables of a symbol with arguments are those of the arguments

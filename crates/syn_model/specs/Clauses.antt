@@ -1,4 +1,4 @@
--- Which clauses a heading may have: its arguments, its place among the others, and where its body may use the symbol that it
+-- For public contracts: which clauses a heading may have: its arguments, its place among the others, and where its body may use the symbol that it
 -- defines.
 use Rattle.std.specs.Prelude.{◌≡◌, ℕ, Bool, true, false, ◌&&◌, List, [], ◌∷◌, Option, None, Some, All, if◌then◌else◌, nat_eq, map, length, slice_get}
 use Rattle.std.specs.List.{flat_map, range_with_len}
@@ -18,7 +18,10 @@ use Rattle.syn_form.specs.declared.trees.Out.TheOpen.{Out-F}
 use Rattle.syn_form.specs.Plain.{IsSorted}
 use Rattle.syn_form.specs.Trees.{FormTree, OutTree, term_vars}
 use Rattle.syn_model.specs.declared.uses.Rest.{Rest}
-use Rattle.syn_model.specs.Headings.{Pattern, Role, first_of_two, second_of_two, only_one, patterns_of, role_of}
+use Rattle.syn_model.specs.declared.patterns.Pattern.{Pattern}
+use Rattle.syn_model.specs.declared.patterns.Role.{Role}
+use Rattle.syn_model.specs.declared.patterns.Role.TheVariants as role
+use Rattle.syn_model.specs.Headings.{patterns_of, role_of}
 
 abbrev pub IsVariable : TermTree → Type 0
 IsVariable t = (v : Var) × (head_of t ≡ head.Var v)
@@ -41,8 +44,8 @@ rest_at args n = option_map (λ v. record { place = n; var = v }) (option_and_th
 
 -- a first clause has no pattern, or the first or only constructor of its sort, and its body doesn't use the symbol
 abbrev pub begins_with : Role → Bool
-begins_with first_of_two = true
-begins_with only_one = true
+begins_with role.FirstOfTwo = true
+begins_with role.OnlyOne = true
 begins_with _ = false
 
 abbrev pub first_turn : SymbolTable → List Pattern → Option (Option Rest)
@@ -51,7 +54,7 @@ first_turn table (p ∷ []) = if begins_with (role_of table p) then Some None el
 first_turn table _ = None
 
 abbrev pub go_together : Role → Role → Bool
-go_together first_of_two second_of_two = true
+go_together role.FirstOfTwo role.SecondOfTwo = true
 go_together _ _ = false
 
 -- a second clause has the second constructor where the first clause has the first one

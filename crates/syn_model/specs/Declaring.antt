@@ -1,5 +1,5 @@
--- Which declaration may follow which others: what a theory is.
-use Rattle.std.specs.Prelude.{◌≡◌, ◌≢◌, ℕ, ◌≤◌, ◌-◌, Bool, true, false, List, [], ◌∷◌, ◌++◌, Option, None, Some, All, Contains, if◌then◌else◌, length, position, slice_get}
+-- For public contracts: which declaration may follow which others: what a theory is.
+use Rattle.std.specs.Prelude.{◌≡◌, ◌≢◌, ℕ, ◌≤◌, ◌-◌, Bool, true, false, List, [], ◌∷◌, ◌++◌, Option, None, Some, All, Contains, length, position, slice_get}
 use Rattle.std.specs.List.{flat_map}
 use Rattle.std.specs.Option.{option_map}
 use Rattle.std.specs.Str.{bytes_eq}
@@ -12,30 +12,28 @@ use Rattle.syn_term.specs.Names.{IsName}
 use Rattle.syn_term.specs.Symbols.{SymbolTable, symbol_at, names_of}
 use Rattle.syn_term.specs.Terms.{TermTree, sort_of}
 use Rattle.syn_form.specs.declared.trees.Mono.{Mono}
-use Rattle.syn_form.specs.declared.trees.QForm.{fold-QForm}
-use Rattle.syn_form.specs.declared.trees.QForm.TheOpen.{QForm-F}
 use Rattle.syn_form.specs.Elaboration.{sym_id}
 use Rattle.syn_form.specs.Plain.{IsSorted, IsPlainForm, IsPlainOut, given_sort}
 use Rattle.syn_form.specs.PlainQuantified.{IsPlainQForm, binders_of}
+use Rattle.syn_form.specs.Quantified.{free_vars}
 use Rattle.syn_form.specs.Sorts.{is_relation}
-use Rattle.syn_form.specs.Substitutions.{same_var}
-use Rattle.syn_form.specs.Trees.{QFormTree, FormTree, OutTree, all_of, form_vars, out_vars, term_vars}
+use Rattle.syn_form.specs.Trees.{QFormTree, FormTree, OutTree, form_vars, out_vars, term_vars}
 use Rattle.syn_model.specs.declared.decl.Decl.{Decl}
 use Rattle.syn_model.specs.declared.decl.Decl.TheVariants as decl
 use Rattle.syn_model.specs.declared.uses.Rest.{Rest}
 use Rattle.syn_model.specs.Clauses.{HasArguments, UsesForm, UsesOut, turn_of}
 use Rattle.syn_model.specs.Headings.{heading_of, is_whole}
-use Rattle.syn_model.specs.Parts.{MayBring}
+use Rattle.syn_model.specs.Theories.{MayBring}
 use Rattle.syn_model.specs.Tables.{IsDeclared, monos_of, other_names, table_of}
 
 -- no axiom and no monotonicity row has the name
 abbrev pub IsOtherwiseFree : List Decl → List ℕ → Type 0
 IsOtherwiseFree ds name = Contains (other_names ds) name → ⊥
 
--- a function or relation has a new name, and one argument or more
+-- a function or relation has a new name, and 1 to 64 arguments
 pub record AsksHead (ds : List Decl) (name : List ℕ) (args : List Sort) : Type 0 where
   pub free : IsOtherwiseFree ds name
-  pub some : 1 ≤ length args
+  pub few : (1 ≤ length args) × (length args ≤ 64)
 
 -- the variable is one of those numbered from 1 with these sorts
 abbrev pub IsNumberedIn : List Sort → Var → Type 0
@@ -48,25 +46,6 @@ pub record AsksOrder (ds : List Decl) (name : List ℕ) (args : List Sort) (meas
   pub sorted : IsSorted (table_of ds) measure
   pub number : sort_of (table_of ds) measure ≡ Some sort.Nat
   pub over : All (IsNumberedIn args) (term_vars measure)
-
-abbrev pub without : Var → List Var → List Var
-without v [] = []
-without v (w ∷ ws) = if same_var v w then without v ws else w ∷ without v ws
-
-abbrev pub free_vars_step : QForm-F (List Var) → List Var
-free_vars_step (QForm-F.Atom r args) = flat_map term_vars args
-free_vars_step (QForm-F.Equal s t) = term_vars s ++ term_vars t
-free_vars_step (QForm-F.Not a) = a
-free_vars_step (QForm-F.And all) = all_of all
-free_vars_step (QForm-F.Or all) = all_of all
-free_vars_step (QForm-F.Implies a b) = a ++ b
-free_vars_step (QForm-F.All b a) = without b.var a
-free_vars_step (QForm-F.Exists b a) = without b.var a
-free_vars_step _ = []
-
--- the variables that occur where no quantifier binds them
-abbrev pub free_vars : QFormTree → List Var
-free_vars = fold-QForm (List Var) free_vars_step
 
 -- an axiom has a new name and is a plain formula without free variables, which binds no name that is declared
 pub record MayAxiom (ds : List Decl) (name : List ℕ) (f : QFormTree) : Type 0 where
@@ -122,7 +101,7 @@ pub record MayFunClause (ds : List Decl) (args : List TermTree) (body : OutTree)
   pub rest : Option Rest
   pub heading : (heading_of ds).declared ≡ Some (decl.Fun name sorts result)
   pub defined : symbol_of_name (table_of ds) name ≡ Some own
-  pub turn : turn_of (table_of ds) (heading_of ds).clauses args ≡ Some rest
+  pub turn : turn_of (table_of ds) (heading_of ds).arguments args ≡ Some rest
   pub arguments : HasArguments (table_of ds) sorts args
   pub plain : IsPlainOut (table_of ds) body
   pub sort : given_sort (table_of ds) body ≡ Some result
@@ -137,7 +116,7 @@ pub record MayRelClause (ds : List Decl) (args : List TermTree) (body : FormTree
   pub rest : Option Rest
   pub heading : (heading_of ds).declared ≡ Some (decl.Rel name sorts)
   pub defined : symbol_of_name (table_of ds) name ≡ Some own
-  pub turn : turn_of (table_of ds) (heading_of ds).clauses args ≡ Some rest
+  pub turn : turn_of (table_of ds) (heading_of ds).arguments args ≡ Some rest
   pub arguments : HasArguments (table_of ds) sorts args
   pub plain : IsPlainForm (table_of ds) body
   pub over : AreAmong (form_vars body) (flat_map term_vars args)

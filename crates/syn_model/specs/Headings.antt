@@ -1,35 +1,33 @@
--- The heading that is declared last, with its clauses, and whether one is missing.
+-- For public contracts: the heading that is declared last, with its clauses, and whether one is missing.
 use Rattle.std.specs.Prelude.{ℕ, ◌+◌, Bool, true, false, List, [], ◌∷◌, ◌++◌, Option, None, Some, fold}
 use Rattle.std.specs.Option.{option_map}
 use Rattle.syn_term.specs.declared.sorts.Head.{Head}
 use Rattle.syn_term.specs.declared.sorts.Head.TheVariants as head
 use Rattle.syn_term.specs.declared.sorts.Kind.{Kind}
 use Rattle.syn_term.specs.declared.sorts.Kind.TheVariants as kind
-use Rattle.syn_term.specs.declared.sorts.SymId.{SymId}
 use Rattle.syn_term.specs.Symbols.{SymbolTable, symbol_at}
 use Rattle.syn_term.specs.Terms.{TermTree, head_of}
 use Rattle.syn_model.specs.declared.decl.Decl.{Decl}
 use Rattle.syn_model.specs.declared.decl.Decl.TheVariants as decl
+use Rattle.syn_model.specs.declared.patterns.Pattern.{Pattern}
+use Rattle.syn_model.specs.declared.patterns.Role.{Role}
+use Rattle.syn_model.specs.declared.patterns.Role.TheVariants as role
 use Rattle.syn_model.specs.Tables.{table_of}
 
 -- the last declaration that is no clause, and the arguments of the clauses behind it
 pub record Heading : Type 0 where
   pub declared : Option Decl
-  pub clauses : List (List TermTree)
+  pub arguments : List (List TermTree)
 
 abbrev pub heading_after : Heading → Decl → Heading
-heading_after h (decl.FunClause args body) = record { declared = h.declared; clauses = h.clauses ++ args ∷ [] }
-heading_after h (decl.RelClause args body) = record { declared = h.declared; clauses = h.clauses ++ args ∷ [] }
-heading_after h d = record { declared = Some d; clauses = [] }
+heading_after h (decl.FunClause args body) = record { declared = h.declared; arguments = h.arguments ++ args ∷ [] }
+heading_after h (decl.RelClause args body) = record { declared = h.declared; arguments = h.arguments ++ args ∷ [] }
+heading_after h d = record { declared = Some d; arguments = [] }
 
 abbrev pub heading_of : List Decl → Heading
-heading_of = fold heading_after (record { declared = None; clauses = [] })
+heading_of = fold heading_after (record { declared = None; arguments = [] })
 
--- a pattern among the arguments of a clause: its place, counted from 0, and its symbol
-pub record Pattern : Type 0 where
-  pub place : ℕ
-  pub symbol : SymId
-
+-- the pattern that an argument with this at its top is, where it is no variable
 abbrev pub pattern_at : ℕ → Head → List Pattern
 pattern_at n (head.Var v) = []
 pattern_at n (head.Sym f) = record { place = n; symbol = f } ∷ []
@@ -42,26 +40,20 @@ patterns_from n (t ∷ ts) = pattern_at n (head_of t) ++ patterns_from (n + 1) t
 abbrev pub patterns_of : List TermTree → List Pattern
 patterns_of = patterns_from 0
 
--- what a constructor is for its sort: the first of two, the second of two, or the only one
-pub data Role : Type 0 where
-  first_of_two : Role
-  second_of_two : Role
-  only_one : Role
-  no_constructor : Role
-
+-- what a symbol of this kind is for its sort: the first of two constructors, the second of two, the only one, or none
 abbrev pub role_of_kind : Option Kind → Role
-role_of_kind (Some kind.Zero) = first_of_two
-role_of_kind (Some kind.Nil) = first_of_two
-role_of_kind (Some kind.Succ) = second_of_two
-role_of_kind (Some kind.Cons) = second_of_two
-role_of_kind (Some kind.Tuple) = only_one
-role_of_kind _ = no_constructor
+role_of_kind (Some kind.Zero) = role.FirstOfTwo
+role_of_kind (Some kind.Nil) = role.FirstOfTwo
+role_of_kind (Some kind.Succ) = role.SecondOfTwo
+role_of_kind (Some kind.Cons) = role.SecondOfTwo
+role_of_kind (Some kind.Tuple) = role.OnlyOne
+role_of_kind _ = role.NoConstructor
 
 abbrev pub role_of : SymbolTable → Pattern → Role
 role_of table p = role_of_kind (option_map (λ s. s.kind) (symbol_at table p.symbol))
 
 abbrev pub is_only : Role → Bool
-is_only only_one = true
+is_only role.OnlyOne = true
 is_only _ = false
 
 abbrev pub one_suffices : SymbolTable → List Pattern → Bool
@@ -85,4 +77,4 @@ is_complete table false clauses = true
 
 -- no clause of the last heading is missing
 abbrev pub is_whole : List Decl → Bool
-is_whole ds = is_complete (table_of ds) (has_clauses (heading_of ds).declared) (heading_of ds).clauses
+is_whole ds = is_complete (table_of ds) (has_clauses (heading_of ds).declared) (heading_of ds).arguments

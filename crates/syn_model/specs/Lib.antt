@@ -1,8 +1,6 @@
 pub mod Tables
 pub mod Headings
 pub mod Clauses
-pub mod Parts
+pub mod Theories
 pub mod Declaring
-pub mod Closing
-pub mod Views
-pub mod Keeping
+pub mod inner

@@ -1,4 +1,4 @@
--- What declarations put together: the table of symbols, and the names that are no symbol's and no sort's.
+-- For public contracts: what declarations put together: the table of symbols, and the names that are no symbol's and no sort's.
 use Rattle.std.specs.Prelude.{◌⊎◌, ℕ, List, [], ◌∷◌, ◌++◌, None, Some, Contains, fold}
 use Rattle.std.specs.List.{flat_map}
 use Rattle.syn_term.specs.declared.sorts.Sort.{Sort}

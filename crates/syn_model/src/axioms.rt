@@ -1,7 +1,8 @@
 // Axioms: whether one may follow other declarations.
 ghost use Rattle.std.specs.Prelude.{◌≡◌, ◌≢◌, ◌↔◌, [], All, IfOk, IsTrue};
 ghost use Rattle.syn_form.specs.PlainQuantified.{binders_of};
-ghost use Rattle.syn_model.specs.Declaring.{IsOtherwiseFree, MayAxiom, free_vars};
+ghost use Rattle.syn_form.specs.Quantified.{free_vars};
+ghost use Rattle.syn_model.specs.Declaring.{IsOtherwiseFree, MayAxiom};
 ghost use Rattle.syn_model.specs.Tables.{table_of};
 
 use crate::closed::is_closed;

@@ -107,14 +107,14 @@ fn symbol_of_name(syms: &Symbols, name: &str) -> Option<SymId>
 /// Whether a clause with these arguments may be the next of the last heading, and where its body may
 /// use the symbol that it defines.
 fn next_turn(syms: &Symbols, decls: &[Decl], args: &[Term]) -> Option<Option<Rest>>
-    ensures { result ≡ clauses.turn_of syms.now (headings.heading_of decls.now).clauses args.now }
+    ensures { result ≡ clauses.turn_of syms.now (headings.heading_of decls.now).arguments args.now }
 {
     turn_of(syms, heading_of(decls).clauses, args)
 }
 
 /// The symbol with the name and where the body of the next clause, with these arguments, may use it.
 fn own_of(syms: &Symbols, decls: &[Decl], name: &str, args: &[Term]) -> Option<Own>
-    ensures { MatchOption result ((own : SymId) (rest : _) → declaring.symbol_of_name syms.now name.now ≡ Some own → clauses.turn_of syms.now (headings.heading_of decls.now).clauses args.now ≡ Some rest → ⊥) (λ o. (declaring.symbol_of_name syms.now name.now ≡ Some o.symbol) × (clauses.turn_of syms.now (headings.heading_of decls.now).clauses args.now ≡ Some o.rest)) }
+    ensures { MatchOption result ((own : SymId) (rest : _) → declaring.symbol_of_name syms.now name.now ≡ Some own → clauses.turn_of syms.now (headings.heading_of decls.now).arguments args.now ≡ Some rest → ⊥) (λ o. (declaring.symbol_of_name syms.now name.now ≡ Some o.symbol) × (clauses.turn_of syms.now (headings.heading_of decls.now).arguments args.now ≡ Some o.rest)) }
 {
     match (symbol_of_name(syms, name), next_turn(syms, decls, args)) {
         (Some(symbol), Some(rest)) => Some(Own { symbol, rest }),

@@ -1,8 +1,9 @@
 // Whether a formula has free variables.
 ghost use Rattle.std.specs.Prelude.{◌≡◌, ◌↔◌, [], ◌∷◌, All, Contains, IsTrue};
 ghost use Rattle.syn_form.specs.Trees.{term_vars};
-ghost use Rattle.syn_model.specs.Closing.{bound_vars};
-ghost use Rattle.syn_model.specs.Declaring.{AreAmong, free_vars};
+ghost use Rattle.syn_model.specs.inner.Closing.{bound_vars};
+ghost use Rattle.syn_form.specs.Quantified.{free_vars};
+ghost use Rattle.syn_model.specs.Declaring.{AreAmong};
 
 use syn_form::QForm;
 use syn_term::{Node, Term, Var};

@@ -5,7 +5,7 @@ ghost use Rattle.syn_model.specs.declared.decl.Decl.{Decl};
 ghost use Rattle.syn_model.specs.Declaring as declaring;
 ghost use Rattle.syn_model.specs.Headings as headings;
 ghost use Rattle.syn_model.specs.Tables.{table_of};
-ghost use Rattle.syn_model.specs.Views.{IsClause, clause_args, heading_seen};
+ghost use Rattle.syn_model.specs.inner.Views.{IsClause, clause_args, heading_seen};
 
 use crate::decl::Decl;
 use crate::patterns::one_suffices;

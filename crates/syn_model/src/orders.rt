@@ -35,18 +35,24 @@ pub(crate) fn are_all_free(decls: &[Decl], first: &str, second: &str, third: &st
     is_otherwise_free(decls, first) && are_both_free(decls, second, third)
 }
 
+/// How many arguments a function or a relation has at most.
+const MOST_ARGUMENTS: usize = 64;
+
+/// How many arguments an order compares at most.
+const MOST_COMPARED: usize = 4;
+
+/// Whether the sorts are so many, at least one.
+fn are_few(args: &[Sort], most: usize) -> bool
+    ensures { IsTrue result ↔ (1 ≤ length args.now) × (length args.now ≤ most) }
+{
+    !args.is_empty() && args.len() <= most
+}
+
 /// Whether a function or relation of this name, with these arguments, asks nothing more.
 pub(crate) fn asks_head(decls: &[Decl], name: &str, args: &[Sort]) -> bool
     ensures { IsTrue result ↔ AsksHead decls.now name.now args.now }
 {
-    is_otherwise_free(decls, name) && !args.is_empty()
-}
-
-/// Whether the sorts are one to four.
-fn are_few(args: &[Sort]) -> bool
-    ensures { IsTrue result ↔ (1 ≤ length args.now) × (length args.now ≤ 4) }
-{
-    !args.is_empty() && args.len() <= 4
+    is_otherwise_free(decls, name) && are_few(args, MOST_ARGUMENTS)
 }
 
 /// Whether the term is a number.
@@ -77,5 +83,5 @@ pub(crate) fn asks_order(
     if !is_otherwise_free(decls, name) {
         return false;
     }
-    are_few(args) && is_measure(syms, args, measure)
+    are_few(args, MOST_COMPARED) && is_measure(syms, args, measure)
 }

@@ -3,7 +3,7 @@
 ghost use Rattle.std.specs.Prelude.{◌≡◌, Some};
 ghost use Rattle.syn_model.specs.Headings as headings;
 ghost use Rattle.syn_model.specs.Headings.{patterns_of};
-ghost use Rattle.syn_model.specs.Views.{counted, counted_next, pattern_seen, role_seen};
+ghost use Rattle.syn_model.specs.inner.Views.{counted, counted_next};
 
 use syn_term::{Head, Kind, SymId, Symbols, Term};
 
@@ -57,7 +57,7 @@ pub(crate) fn patterns_in(args: &[Term]) -> Patterns
 
 /// What a symbol of this kind is for its sort.
 fn role_of_kind(kind: Kind) -> Role
-    ensures { role_seen result ≡ headings.role_of_kind (Some kind) }
+    ensures { result ≡ headings.role_of_kind (Some kind) }
 {
     match kind {
         Kind::Zero | Kind::Nil => Role::FirstOfTwo,
@@ -69,7 +69,7 @@ fn role_of_kind(kind: Kind) -> Role
 
 /// What the symbol of the pattern is for its sort.
 pub(crate) fn role_of(syms: &Symbols, pattern: Pattern) -> Role
-    ensures { role_seen result ≡ headings.role_of syms.now (pattern_seen pattern) }
+    ensures { result ≡ headings.role_of syms.now pattern }
 {
     match syms.get(pattern.symbol) {
         None => Role::NoConstructor,
@@ -79,7 +79,7 @@ pub(crate) fn role_of(syms: &Symbols, pattern: Pattern) -> Role
 
 /// Whether it is the only constructor of its sort.
 fn is_only(role: Role) -> bool
-    ensures { result ≡ headings.is_only (role_seen role) }
+    ensures { result ≡ headings.is_only role }
 {
     matches!(role, Role::OnlyOne)
 }

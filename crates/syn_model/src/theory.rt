@@ -5,7 +5,7 @@ ghost use Rattle.syn_term.specs.Symbols.{MayAdd, with_symbol};
 ghost use Rattle.syn_term.specs.DeclaredSorts.{MayAddList, MayAddTuple, with_list, with_tuple};
 ghost use Rattle.syn_model.specs.Declaring.{Asks, ComesInTime, IsTheory, MayDeclare, is_clause};
 ghost use Rattle.syn_model.specs.Headings as headings;
-ghost use Rattle.syn_model.specs.Parts.{MayBring, Steps, bare_theory, with_decl};
+ghost use Rattle.syn_model.specs.Theories.{MayBring, Steps, bare_theory, with_decl};
 ghost use Rattle.syn_model.specs.Tables.{fun_symbol, order_symbol, rel_symbol, table_after, table_of};
 ghost use Rattle.syn_model.specs.declared.theory.DeclError.TheVariants as error;
 
@@ -22,7 +22,7 @@ use syn_term::{Kind, NoMemory, Sort, Sym, Symbols, Text, is_name};
 pub enum DeclError {
     /// The name is no name, or the declaration may not follow those before it.
     Refused,
-    /// Memory was refused, or numbers of symbols or sorts ran out.
+    /// Memory was refused.
     NoMemory,
 }
 
@@ -40,24 +40,25 @@ impl From<NoMemory> for DeclError {
 /// A theory. Contracts see it as its name and its declarations.
 #[derive(Drop)]
 pub struct Theory {
+    alloc: Global,
     name: Text,
     syms: Symbols,
     decls: Items<Decl>,
 }
 
 impl Model for Theory {
-    ghost use Rattle.syn_model.specs.Keeping.{IsKept};
-    ghost use Rattle.syn_model.specs.Parts.{TheoryParts};
+    ghost use Rattle.syn_model.specs.inner.Keeping.{HoldsTheory};
+    ghost use Rattle.syn_model.specs.Theories.{TheoryTree};
     ghost use Rattle.syn_model.specs.contracts.decl.Decl as decl;
     ghost use Rattle.std.specs.Coded.{codes};
 
-    ghost Value = { TheoryParts };
+    ghost Value = { TheoryTree };
 
     ghost coded = { Prim.hlevel (codes, decl.the_row.coded) };
 
     ghost view = { λ t. record { name = t.name; decls = t.decls } };
 
-    ghost invariant = { λ t. IsKept t.syms t.decls };
+    ghost invariant = { λ t. HoldsTheory t.name t.syms t.decls };
 }
 
 // Adds the symbol. Whether it may be added is the answer.
@@ -182,7 +183,7 @@ fn bring_last(alloc: Global, syms: &mut Symbols, decls: &[Decl]) -> Result<bool,
 fn drop_last(decls: &mut Items<Decl>)
     ensures { (ds : _) (d : Decl) → decls.old ≡ ds ++ d ∷ [] → decls.new ≡ ds }
 {
-    let _ = decls.pop();
+    drop(decls.pop());
 }
 
 impl Theory {
@@ -198,15 +199,17 @@ impl Theory {
             return Err(DeclError::NoMemory);
         };
         Ok(Theory {
+            alloc,
             name,
             syms: Symbols::new(alloc)?,
             decls: Items::new(alloc),
         })
     }
 
-    /// The name of the theory.
+    /// The name of the theory, which is a name.
     pub fn name(&self) -> &str
-        ensures { result.now ≡ (self.now).name }
+        ensures is { result.now ≡ (self.now).name }
+        ensures named { IsName result.now }
     {
         self.name.as_str()
     }
@@ -235,15 +238,32 @@ impl Theory {
 
     /// Puts a declaration behind the others. `Refused` comes exactly where it may not follow them; the
     /// theory is as it was after an error.
-    pub fn declare(&mut self, alloc: Global, decl: Decl) -> Result<(), DeclError>
+    pub fn declare(&mut self, decl: Decl) -> Result<(), DeclError>
         ensures ok { OnOk result (MayDeclare self.old.decls decl × (self.new ≡ with_decl self.old decl)) }
         ensures refused { result ≡ Err error.Refused → MayDeclare self.old.decls decl → ⊥ }
         ensures err { OnErr result (self.new ≡ self.old) }
     {
-        if !may_follow(alloc, &self.syms, self.decls.as_slice(), &decl)? {
-            return Err(DeclError::Refused);
+        match may_follow(self.alloc, &self.syms, self.decls.as_slice(), &decl) {
+            Ok(true) => self.put_or_refuse(decl),
+            Ok(false) => {
+                drop(decl);
+                Err(DeclError::Refused)
+            }
+            Err(error) => {
+                drop(decl);
+                Err(error.into())
+            }
         }
-        if self.put(alloc, decl)? {
+    }
+
+    /// Puts down a declaration that asks nothing more. `Refused`: the table may not take what it brings.
+    fn put_or_refuse(&mut self, decl: Decl) -> Result<(), DeclError>
+        requires { ComesInTime self.old.decls (is_clause decl) × Asks self.old.decls decl }
+        ensures ok { OnOk result (MayBring (table_of self.old.decls) decl × (self.new ≡ with_decl self.old decl)) }
+        ensures refused { result ≡ Err error.Refused → MayBring (table_of self.old.decls) decl → ⊥ }
+        ensures err { OnErr result (self.new ≡ self.old) }
+    {
+        if self.put(decl)? {
             Ok(())
         } else {
             Err(DeclError::Refused)
@@ -251,13 +271,13 @@ impl Theory {
     }
 
     /// Puts down a declaration with all that it brings. False: the table may not take that.
-    fn put(&mut self, alloc: Global, decl: Decl) -> Result<bool, NoMemory>
+    fn put(&mut self, decl: Decl) -> Result<bool, NoMemory>
         requires { ComesInTime self.old.decls (is_clause decl) × Asks self.old.decls decl }
         ensures ok { IfOk result (Steps self.old self.new (with_decl self.old decl) (MayBring (table_of self.old.decls) decl)) }
         ensures err { OnErr result (self.new ≡ self.old) }
     {
         self.decls.push(decl)?;
-        match bring_last(alloc, &mut self.syms, self.decls.as_slice()) {
+        match bring_last(self.alloc, &mut self.syms, self.decls.as_slice()) {
             Ok(true) => Ok(true),
             Ok(false) => {
                 drop_last(&mut self.decls);

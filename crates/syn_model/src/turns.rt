@@ -9,7 +9,7 @@ ghost use Rattle.syn_model.specs.Clauses as clauses;
 ghost use Rattle.syn_model.specs.Clauses.{HasArguments, IsVariable};
 ghost use Rattle.syn_model.specs.Headings as headings;
 ghost use Rattle.syn_model.specs.Headings.{patterns_of};
-ghost use Rattle.syn_model.specs.Views.{IsClause, clause_args, later, numbered_from, pattern_seen, role_seen};
+ghost use Rattle.syn_model.specs.inner.Views.{IsClause, clause_args, later, numbered_from};
 
 use crate::decl::Decl;
 use crate::headings::arguments_in;
@@ -21,14 +21,14 @@ use syn_term::{Head, Node, Sort, Symbols, Term, Var};
 
 /// Whether the pattern of a first clause may be this for its sort.
 fn begins_with(role: Role) -> bool
-    ensures { result ≡ clauses.begins_with (role_seen role) }
+    ensures { result ≡ clauses.begins_with role }
 {
     matches!(role, Role::FirstOfTwo | Role::OnlyOne)
 }
 
 /// Whether the patterns of two clauses may be these for their sorts.
 fn go_together(first: Role, second: Role) -> bool
-    ensures { result ≡ clauses.go_together (role_seen first) (role_seen second) }
+    ensures { result ≡ clauses.go_together first second }
 {
     matches!((first, second), (Role::FirstOfTwo, Role::SecondOfTwo))
 }
@@ -92,7 +92,7 @@ fn rest_at(args: &[Term], place: usize) -> Option<Rest>
 
 /// Whether the second pattern goes with the first.
 fn is_second(syms: &Symbols, first: Pattern, second: Pattern) -> bool
-    ensures { result ≡ (clauses.go_together (headings.role_of syms.now (pattern_seen first)) (headings.role_of syms.now (pattern_seen second)) && nat_eq first.place second.place) }
+    ensures { result ≡ (clauses.go_together (headings.role_of syms.now first) (headings.role_of syms.now second) && nat_eq first.place second.place) }
 {
     go_together(role_of(syms, first), role_of(syms, second)) && first.place == second.place
 }
@@ -105,7 +105,7 @@ fn second_with(
     first: Pattern,
     second: Pattern,
 ) -> Option<Option<Rest>>
-    ensures { result ≡ clauses.second_turn syms.now args.now (pattern_seen first ∷ []) (pattern_seen second ∷ []) }
+    ensures { result ≡ clauses.second_turn syms.now args.now (first ∷ []) (second ∷ []) }
 {
     if !is_second(syms, first, second) {
         return None;

@@ -8,7 +8,8 @@ use Rattle.std.specs.declared.alloc.Global.{Global}
 use Rattle.std.proofs.lemmas.List.{get_or-map, map-set}
 use Rattle.std.proofs.Math.Seq.{map-set_same}
 use Rattle.syn_outside.specs.Files.{File, file_of, bytes_of, with_file, written}
-use Rattle.syn_outside.specs.Memory.{IsPlace, no_file, seen, all_seen}
+use Rattle.syn_outside.specs.Memory.{seen, all_seen}
+use Rattle.syn_outside.specs.inner.Places.{IsPlace, no_file}
 
 -- No file below i has the name.
 abbrev pub NoneBelow : List File → List ℕ → ℕ → Type 0

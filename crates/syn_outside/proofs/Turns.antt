@@ -3,7 +3,7 @@ use Rattle.std.proofs.Common.{◌≡◌, ℕ, ◌+◌, ◌-◌, ◌≤◌, List,
 use Rattle.std.proofs.lemmas.List.{take_all, take_rest}
 use Rattle.syn_outside.specs.Files.{File, file_of, Told}
 use Rattle.syn_outside.specs.Texts.{Adds}
-use Rattle.syn_outside.specs.Whole.{TakesPart, IsBeginning}
+use Rattle.syn_outside.specs.inner.Whole.{TakesPart, HasTaken}
 
 -- A beginning and the next bytes are a beginning.
 longer : (old new : List ℕ) (k : ℕ) (bytes : List ℕ) → old ≡ take (length old) bytes → new ≡ old ++ take k (drop (length old) bytes) → length new ≡ length old + k → new ≡ take (length new) bytes
@@ -14,7 +14,7 @@ longer old new k bytes begins adds grown =
 within_whole : (taken bytes : List ℕ) → taken ≡ take (length taken) bytes → length taken ≤ length bytes
 within_whole taken bytes begins = omega (arith, ap length begins, length-take (length taken) bytes)
 
-begins_step : (files : Option (List File)) (name old new : List ℕ) (k : ℕ) → IsBeginning files name old → TakesPart files name old new k → IsBeginning files name new
+begins_step : (files : Option (List File)) (name old new : List ℕ) (k : ℕ) → HasTaken files name old → TakesPart files name old new k → HasTaken files name new
 begins_step None name old new k b t = record { is = λ bytes h. absurd h; there = λ lt. tt }
 begins_step (Some fs) name old new k b t =
     let all : List ℕ = t.told.0 in
@@ -26,14 +26,14 @@ begins_step (Some fs) name old new k b t =
     }
 
 -- Nothing taken is a beginning.
-pub begins_none : (files : Option (List File)) (name taken : List ℕ) → taken ≡ [] → IsBeginning files name taken
-begins_none files name taken e = subst (λ (z : List ℕ). IsBeginning files name z) (sym e) (record { is = λ bytes h. refl; there = λ lt. absurd (omega arith) })
+pub begins_none : (files : Option (List File)) (name taken : List ℕ) → taken ≡ [] → HasTaken files name taken
+begins_none files name taken e = subst (λ (z : List ℕ). HasTaken files name z) (sym e) (record { is = λ bytes h. refl; there = λ lt. absurd (omega arith) })
 
 -- A turn takes a beginning to a beginning.
-pub begins_more : (first files : Option (List File)) (name old new : List ℕ) (k : ℕ) → files ≡ first → IsBeginning first name old → TakesPart files name old new k → IsBeginning first name new
+pub begins_more : (first files : Option (List File)) (name old new : List ℕ) (k : ℕ) → files ≡ first → HasTaken first name old → TakesPart files name old new k → HasTaken first name new
 begins_more first files name old new k e b t = begins_step first name old new k b (subst (λ (z : Option (List File)). TakesPart z name old new k) e t)
 
-whole_step : (files : Option (List File)) (name old new : List ℕ) → IsBeginning files name old → TakesPart files name old new 0 → Told (λ all. new ≡ all) files name
+whole_step : (files : Option (List File)) (name old new : List ℕ) → HasTaken files name old → TakesPart files name old new 0 → Told (λ all. new ≡ all) files name
 whole_step None name old new b t = tt
 whole_step (Some fs) name old new b t =
     let all : List ℕ = t.told.0 in
@@ -43,7 +43,7 @@ whole_step (Some fs) name old new b t =
     (all, here, is ∙ take_all (length new) all (omega (arith, t.grown)))
 
 -- A turn that takes nothing shows that the whole was taken.
-pub whole_at : (first files : Option (List File)) (name old new : List ℕ) (k : ℕ) → files ≡ first → k ≡ 0 → IsBeginning first name old → TakesPart files name old new k → Told (λ all. new ≡ all) first name
+pub whole_at : (first files : Option (List File)) (name old new : List ℕ) (k : ℕ) → files ≡ first → k ≡ 0 → HasTaken first name old → TakesPart files name old new k → Told (λ all. new ≡ all) first name
 whole_at first files name old new k e none b t =
     let here : TakesPart first name old new k = subst (λ (z : Option (List File)). TakesPart z name old new k) e t in
     whole_step first name old new b (subst (λ (n : ℕ). TakesPart first name old new n) none here)

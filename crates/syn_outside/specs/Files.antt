@@ -1,4 +1,4 @@
--- Files told as a list: what a name stands for, and what a read and a write of a part mean.
+-- For public contracts: files told as a list: what a name stands for, and what a read and a write of a part mean.
 use Rattle.std.specs.Prelude.{if◌then◌else◌, ◌≡◌, ℕ, ◌-◌, ◌<◌, ◌≤◌, List, [], ◌∷◌, ◌++◌, length, take, drop, Option, Some, None, unwrap_or}
 use Rattle.std.specs.Str.{bytes_eq}
 
@@ -35,17 +35,19 @@ abbrev pub Told : (List ℕ → Type 0) → Option (List File) → List ℕ → 
 Told P None name = Unit {0}
 Told P (Some fs) name = (bytes : List ℕ) × (file_of fs name ≡ Some bytes) × P bytes
 
--- From place `at` of a file with these bytes, k bytes stand at the front of the buffer and the rest of it is as before.
--- None come only where there is no room or where `at` isn't before the file's end.
-pub record Gives (at : ℕ) (old new : List ℕ) (k : ℕ) (bytes : List ℕ) : Type 0 where
+-- From place `at` of a file with these bytes, k bytes stand at the front of the buffer. None come only where there is no
+-- room or where `at` isn't before the file's end.
+pub record Gives (at : ℕ) (buffer : List ℕ) (k : ℕ) (bytes : List ℕ) : Type 0 where
   pub there : k ≤ length bytes - at
-  pub is : new ≡ take k (drop at bytes) ++ drop k old
-  pub some : 0 < length old → at < length bytes → 0 < k
+  pub is : take k buffer ≡ take k (drop at bytes)
+  pub some : 0 < length buffer → at < length bytes → 0 < k
 
--- A read of k bytes from place `at` of a file into a buffer.
-pub record Reads (files : Option (List File)) (name : List ℕ) (at : ℕ) (old new : List ℕ) (k : ℕ) : Type 0 where
+-- A read of k bytes from place `at` of a file into a buffer, whose length stays, and so does what stands behind them.
+pub record ReadsPart (files : Option (List File)) (name : List ℕ) (at : ℕ) (old new : List ℕ) (k : ℕ) : Type 0 where
   pub fits : k ≤ length old
-  pub told : Told (Gives at old new k) files name
+  pub room : length new ≡ length old
+  pub rest : drop k new ≡ drop k old
+  pub told : Told (Gives at new k) files name
 
 -- A write may begin at place 0 or within the file: nothing is left out between the file's end and the new bytes.
 abbrev pub MayBegin : Option (List File) → List ℕ → ℕ → Type 0

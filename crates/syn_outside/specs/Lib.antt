@@ -2,4 +2,4 @@ pub mod Faults
 pub mod Files
 pub mod Texts
 pub mod Memory
-pub mod Whole
+pub mod inner

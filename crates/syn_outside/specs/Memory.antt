@@ -1,10 +1,10 @@
--- Files and a text in memory, whose calls are numbered from 1 and fail where their number is listed.
-use Rattle.std.specs.Prelude.{if◌then◌else◌, ◌≡◌, ℕ, ◌-◌, ◌<◌, List, [], ◌++◌, slice_index_or, slice_set, Some, Bool, ◌==◌, length, min, map}
+-- For public contracts: files and a text in memory, whose calls are numbered from 1 and fail where their number is listed.
+use Rattle.std.specs.Prelude.{if◌then◌else◌, ℕ, ◌-◌, List, ◌++◌, Bool, ◌==◌, length, min, map}
 use Rattle.std.specs.List.{list_any}
 use Rattle.std.specs.declared.alloc.Global.{Global}
 use Rattle.std.specs.Prelude.{Vec, String, string_bytes}
 use Rattle.syn_outside.specs.Faults.{raised}
-use Rattle.syn_outside.specs.Files.{File, file_of, bytes_of, with_file, written}
+use Rattle.syn_outside.specs.Files.{File, bytes_of, written}
 
 -- Files in memory: at most `step` bytes move at a time, the calls numbered in `fail` fail, and `calls` were made.
 pub record MemoryFiles : Type 0 where
@@ -67,13 +67,3 @@ after_putting m piece = record (after_put m) { text = m.text ++ piece }
 -- How many bytes a read moves: the least of the step, of what there is from the place on, and of the room.
 abbrev pub read_count : MemoryFiles → List ℕ → ℕ → ℕ → ℕ
 read_count m name at room = min m.step (min (length (bytes_of m.files name) - at) room)
-
--- A file with no name and no bytes, for a place past the end.
-abbrev pub no_file : File
-no_file = ([], [])
-
--- The place i holds the first file of the name, so that to replace the bytes there is to replace the name's.
-pub record IsPlace (files : List File) (name : List ℕ) (i : ℕ) : Type 0 where
-  pub within : i < length files
-  pub is : file_of files name ≡ Some (slice_index_or files i no_file).1
-  pub sets : (bytes : List ℕ) → with_file files name bytes ≡ slice_set files i ((slice_index_or files i no_file).0, bytes)

@@ -1,4 +1,4 @@
--- A text that is told as far as it was put.
+-- For public contracts: a text that is told as far as it was put.
 use Rattle.std.specs.Prelude.{◌≡◌, ℕ, ◌<◌, ◌≤◌, List, ◌++◌, length, take, Option, Some, None}
 
 -- The text before, and the text after these bytes were added; an untold text stays untold.

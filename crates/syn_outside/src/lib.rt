@@ -5,11 +5,10 @@
 //! whole. What the real files and the real output hold is trusted and not told.
 #![tactic(auto)]
 
+mod buffer;
 mod memory_files;
 mod memory_text;
 mod runtime;
-#[cfg(test)]
-mod tests;
 mod traits;
 mod whole;
 

@@ -1,12 +1,14 @@
 // Files in memory. Reads and writes are numbered together from 1 and fail where their number is
 // listed, and each moves at most a step, so a test can bring about each outcome of a read and a
 // write. A write makes the file's new bytes beside the old ones, so an error leaves all as it was.
-ghost use Rattle.std.specs.Prelude.{◌≡◌, ◌≢◌, ℕ, ◌-◌, ◌<◌, ◌≤◌, ◌↔◌, ◌⊎◌, List, [], ◌∷◌, ◌++◌, Option, Some, None, Err, IfOk, OnOk, OnErr, MatchOption, IsTrue, true, false, length, take, min, option_map};
-ghost use Rattle.syn_outside.specs.Faults.{Rose, HasCause, raised};
-ghost use Rattle.syn_outside.specs.Files.{File, file_of, bytes_of, HasDistinctNames, Gives, Reads, MayBegin, written, WritesSome};
+ghost use Rattle.std.specs.Prelude.{◌≡◌, ◌≢◌, ℕ, ◌-◌, ◌<◌, ◌≤◌, ◌↔◌, ◌⊎◌, List, [], ◌∷◌, ◌++◌, Option, Some, None, Err, IfOk, OnOk, OnErr, MatchOption, IsTrue, true, false, length, take, drop, min, option_map};
+ghost use Rattle.syn_outside.specs.Faults.{Rose, HasCause, UnlessFailed, raised};
+ghost use Rattle.syn_outside.specs.Files.{File, file_of, bytes_of, HasDistinctNames, Gives, ReadsPart, MayBegin, written, WritesSome};
 ghost use Rattle.syn_outside.specs.declared.traits.Trouble.{Trouble};
-ghost use Rattle.syn_outside.specs.Memory.{MemoryFiles, all_seen, is_to_fail, read_count, after_read, after_write, after_writing, IsPlace};
+ghost use Rattle.syn_outside.specs.Memory.{MemoryFiles, all_seen, is_to_fail, read_count, after_read, after_write, after_writing};
+ghost use Rattle.syn_outside.specs.inner.Places.{IsPlace};
 
+use crate::buffer::put_front;
 use crate::traits::{Cabinet, Trouble};
 use std::alloc::AllocError;
 use std::marker::Model;
@@ -90,12 +92,13 @@ impl Cabinet for MemCabinet {
     ghost write_faults = { λ c. c.write_faults };
 
     fn read(&mut self, name: &str, at: u64, buf: &mut [u8]) -> Result<usize, Trouble>
-        ensures bytes { IfOk result (Reads (Some self.old.files) name.now at buf.old buf.new) }
+        ensures bytes { IfOk result (ReadsPart (Some self.old.files) name.now at buf.old buf.new) }
         ensures files { Some self.new.files ≡ Some self.old.files }
         ensures later { self.old.read_faults ≤ self.new.read_faults }
         ensures writes { self.new.write_faults ≡ self.old.write_faults }
         ensures cause { result ≡ Err Trouble.Failed →
             HasCause self.old.read_faults self.new.read_faults (Some self.old.files) name.now }
+        ensures quiet { UnlessFailed result (self.new.read_faults ≡ self.old.read_faults) }
 
         // Which reads fail, how many bytes move, and what stays.
         ensures moved { IfOk result (λ k. k ≡ read_count self.old name.now at (length buf.old)) }
@@ -124,6 +127,7 @@ impl Cabinet for MemCabinet {
         ensures later { self.old.write_faults ≤ self.new.write_faults }
         ensures reads { self.new.read_faults ≡ self.old.read_faults }
         ensures cause { result ≡ Err Trouble.Failed → Rose self.old.write_faults self.new.write_faults }
+        ensures quiet { UnlessFailed result (self.new.write_faults ≡ self.old.write_faults) }
 
         // Which writes fail, how many bytes move, and what stays.
         ensures moved { IfOk result (λ k. k ≡ min self.old.step (length piece.now)) }
@@ -165,12 +169,14 @@ fn place_of(files: &[(String, Vec<u8>)], name: &str) -> Option<usize>
 // Copies bytes from place `at` on, at most `step`, to the front of `buf`.
 fn copy_part(bytes: &[u8], at: usize, step: usize, buf: &mut [u8]) -> usize
     requires { 0 < step }
-    ensures gives { Gives at buf.old buf.new result bytes.now }
+    ensures gives { Gives at buf.new result bytes.now }
+    ensures room { length buf.new ≡ length buf.old }
+    ensures rest { drop result buf.new ≡ drop result buf.old }
     ensures count { result ≡ min step (min (length bytes.now - at) (length buf.old)) }
 {
     let rest = &bytes[at.min(bytes.len())..];
     let count = step.min(rest.len().min(buf.len()));
-    buf[..count].copy_from_slice(&rest[..count]);
+    put_front(buf, &rest[..count]);
     count
 }
 

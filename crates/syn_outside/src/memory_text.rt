@@ -1,7 +1,7 @@
 // A text in memory. Its calls are numbered from 1 and fail where their number is listed, and a put
 // moves at most a step, so a test can bring about each outcome of a put.
 ghost use Rattle.std.specs.Prelude.{◌≡◌, ℕ, ◌<◌, ◌≤◌, ◌↔◌, List, [], Option, Some, Err, IfOk, OnErr, MatchResult, IsTrue, true, false, length, take, min};
-ghost use Rattle.syn_outside.specs.Faults.{Rose, raised};
+ghost use Rattle.syn_outside.specs.Faults.{Rose, UnlessFailed, raised};
 ghost use Rattle.syn_outside.specs.Texts.{PutsSome};
 ghost use Rattle.syn_outside.specs.declared.traits.Trouble.{Trouble};
 ghost use Rattle.syn_outside.specs.Memory.{MemoryText, is_to_fail, after_put, after_putting};
@@ -77,6 +77,7 @@ impl Sink for MemSink {
         ensures err { OnErr result (Some self.new.text ≡ Some self.old.text) }
         ensures later { self.old.faults ≤ self.new.faults }
         ensures cause { result ≡ Err Trouble.Failed → Rose self.old.faults self.new.faults }
+        ensures quiet { UnlessFailed result (self.new.faults ≡ self.old.faults) }
 
         // Which puts fail, and how many bytes move.
         ensures moved { IfOk result (λ k. k ≡ min self.old.step (length piece.now)) }

@@ -2,16 +2,20 @@
 // write of the runtime. What they hold is not told, so the clauses are those on counts; that the
 // runtime reads and writes what it says is trusted.
 ghost use Rattle.std.specs.Prelude.{◌≡◌, ℕ, ◌<◌, ◌≤◌, Option, None, Ok, Err, IfOk, OnOk, OnErr, MatchOption, length};
-ghost use Rattle.syn_outside.specs.Faults.{Faults, Rose, HasCause, raised};
-ghost use Rattle.syn_outside.specs.Files.{File, Told, Gives, Reads, MayBegin, Writes, WritesSome};
+ghost use Rattle.syn_outside.specs.Faults.{Faults, Rose, HasCause, UnlessFailed, raised};
+ghost use Rattle.syn_outside.specs.Files.{File, Told, Gives, ReadsPart, MayBegin, Writes, WritesSome};
 ghost use Rattle.syn_outside.specs.Texts.{Adds, PutsSome};
 ghost use Rattle.syn_outside.specs.declared.traits.Trouble.{Trouble};
 
+use crate::buffer::put_front;
 use crate::traits::{Cabinet, Sink, Trouble};
 use std::fs::{File, OpenFile, OpenOptions};
 use std::io::{self, ErrorKind, Read, Seek, SeekFrom, Write};
 use std::marker::Model;
 use std::rt::Files;
+
+/// The most bytes that one read takes.
+const MOST_READ: usize = 4096;
 
 /// The files of the current folder. A name is a path as the runtime takes it.
 #[derive(Drop)]
@@ -47,6 +51,17 @@ impl<'a, R: Files> FolderCabinet<'a, R> {
         file.read(buf)
     }
 
+    // The runtime does not say that it leaves the rest of a buffer, so the bytes come into one here.
+    fn read_part(&self, name: &str, at: u64, buf: &mut [u8]) -> io::Result<usize>
+        ensures { IfOk result (ReadsPart None name.now at buf.old buf.new) }
+    {
+        let mut part = [0; MOST_READ];
+        let most = buf.len().min(MOST_READ);
+        let count = self.read_once(name, at, &mut part[..most])?;
+        put_front(buf, &part[..count]);
+        Ok(count)
+    }
+
     // The file's old tail goes last, so that a write that fails leaves the file as it was.
     fn write_once(&self, name: &str, at: u64, piece: &[u8]) -> io::Result<usize>
         ensures within { IfOk result (λ k. k ≤ length piece.now) }
@@ -77,17 +92,18 @@ impl<'a, R: Files> Cabinet for FolderCabinet<'a, R> {
     ghost write_faults = { λ c. c.writes };
 
     fn read(&mut self, name: &str, at: u64, buf: &mut [u8]) -> Result<usize, Trouble>
-        ensures bytes { IfOk result (Reads None name.now at buf.old buf.new) }
+        ensures bytes { IfOk result (ReadsPart None name.now at buf.old buf.new) }
         ensures later { self.old.reads ≤ self.new.reads }
         ensures writes { self.new.writes ≡ self.old.writes }
         ensures cause { result ≡ Err Trouble.Failed → HasCause self.old.reads self.new.reads None name.now }
+        ensures quiet { UnlessFailed result (self.new.reads ≡ self.old.reads) }
 
         // Each error counts, and nothing else does.
         ensures well { OnOk result (self.new ≡ self.old) }
         ensures failed { OnErr result (result ≡ Err Trouble.Failed) }
         ensures counts { OnErr result (self.new ≡ record self.old { reads = raised self.old.reads }) }
     {
-        match self.read_once(name, at, buf) {
+        match self.read_part(name, at, buf) {
             Ok(k) => Ok(k),
             Err(_) => {
                 self.read_faults = self.read_faults.saturating_add(1);
@@ -102,6 +118,7 @@ impl<'a, R: Files> Cabinet for FolderCabinet<'a, R> {
         ensures later { self.old.writes ≤ self.new.writes }
         ensures reads { self.new.reads ≡ self.old.reads }
         ensures cause { result ≡ Err Trouble.Failed → Rose self.old.writes self.new.writes }
+        ensures quiet { UnlessFailed result (self.new.writes ≡ self.old.writes) }
 
         // Each error counts, and nothing else does.
         ensures well { OnOk result (self.new ≡ self.old) }
@@ -149,6 +166,7 @@ impl<'a, R: Print> Sink for StdSink<'a, R> {
         ensures text { IfOk result (PutsSome None None piece.now) }
         ensures later { self.old ≤ self.new }
         ensures cause { result ≡ Err Trouble.Failed → Rose self.old self.new }
+        ensures quiet { UnlessFailed result (self.new ≡ self.old) }
 
         // Each error counts, and nothing else does.
         ensures well { OnOk result (self.new ≡ self.old) }

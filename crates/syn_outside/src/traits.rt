@@ -2,8 +2,8 @@
 // code over the traits is proved for both, so what it promises of told files and texts holds of
 // each implementation that tells them, and what it promises of faults holds of all.
 ghost use Rattle.std.specs.Prelude.{◌≡◌, ℕ, ◌≤◌, List, Option, Err, IfOk, OnErr};
-ghost use Rattle.syn_outside.specs.Faults.{Rose, HasCause};
-ghost use Rattle.syn_outside.specs.Files.{File, Reads, MayBegin, WritesSome};
+ghost use Rattle.syn_outside.specs.Faults.{Rose, HasCause, UnlessFailed};
+ghost use Rattle.syn_outside.specs.Files.{File, ReadsPart, MayBegin, WritesSome};
 ghost use Rattle.syn_outside.specs.Texts.{PutsSome};
 ghost use Rattle.syn_outside.specs.declared.traits.Trouble.{Trouble};
 
@@ -30,14 +30,16 @@ pub trait Cabinet {
     /// Reads bytes from place `at` of the file `name` into `buf`, and answers how many.
     ///
     /// It answers 0 with room in `buf` only where `at` isn't before the file's end. A name that
-    /// isn't there is an error. After an error `buf` may hold anything.
+    /// isn't there is an error. What stands in `buf` behind the bytes stays; after an error `buf` may
+    /// hold anything.
     fn read(&mut self, name: &str, at: u64, buf: &mut [u8]) -> Result<usize, Trouble>
-        ensures bytes { IfOk result (Reads (files self.old) name.now at buf.old buf.new) }
+        ensures bytes { IfOk result (ReadsPart (files self.old) name.now at buf.old buf.new) }
         ensures files { files self.new ≡ files self.old }
         ensures later { read_faults self.old ≤ read_faults self.new }
         ensures writes { write_faults self.new ≡ write_faults self.old }
         ensures cause { result ≡ Err Trouble.Failed →
-            HasCause (read_faults self.old) (read_faults self.new) (files self.old) name.now };
+            HasCause (read_faults self.old) (read_faults self.new) (files self.old) name.now }
+        ensures quiet { UnlessFailed result (read_faults self.new ≡ read_faults self.old) };
 
     /// Makes the file `name` its first `at` bytes followed by first bytes of `piece`, and answers
     /// how many of `piece`.
@@ -50,7 +52,8 @@ pub trait Cabinet {
         ensures err { OnErr result (files self.new ≡ files self.old) }
         ensures later { write_faults self.old ≤ write_faults self.new }
         ensures reads { read_faults self.new ≡ read_faults self.old }
-        ensures cause { result ≡ Err Trouble.Failed → Rose (write_faults self.old) (write_faults self.new) };
+        ensures cause { result ≡ Err Trouble.Failed → Rose (write_faults self.old) (write_faults self.new) }
+        ensures quiet { UnlessFailed result (write_faults self.new ≡ write_faults self.old) };
 }
 
 /// A text that is put out a piece at a time.
@@ -68,5 +71,6 @@ pub trait Sink {
         ensures text { IfOk result (PutsSome (text self.old) (text self.new) piece.now) }
         ensures err { OnErr result (text self.new ≡ text self.old) }
         ensures later { faults self.old ≤ faults self.new }
-        ensures cause { result ≡ Err Trouble.Failed → Rose (faults self.old) (faults self.new) };
+        ensures cause { result ≡ Err Trouble.Failed → Rose (faults self.old) (faults self.new) }
+        ensures quiet { UnlessFailed result (faults self.new ≡ faults self.old) };
 }

@@ -2,10 +2,10 @@
 // byte, so a reader takes at most one turn more than it takes bytes, and no answer is needed for a
 // loop that has run too long.
 ghost use Rattle.std.specs.Prelude.{◌≡◌, ℕ, ◌+◌, ◌<◌, ◌≤◌, List, [], ◌++◌, Option, Err, IfOk, OnOk, OnErr, IsOk, length, vec_len};
-ghost use Rattle.syn_outside.specs.Faults.{Rose, HasCause};
+ghost use Rattle.syn_outside.specs.Faults.{Rose, HasCause, UnlessFailed, UnlessReadFault, UnlessWriteFault};
 ghost use Rattle.syn_outside.specs.Files.{File, Told};
 ghost use Rattle.syn_outside.specs.Texts.{Adds, AddsPrefix};
-ghost use Rattle.syn_outside.specs.Whole.{TakesPart, IsBeginning};
+ghost use Rattle.syn_outside.specs.inner.Whole.{TakesPart};
 ghost use Rattle.syn_outside.specs.declared.traits.Trouble.{Trouble};
 ghost use Rattle.syn_outside.specs.declared.whole.ReadError.{ReadError};
 ghost use Rattle.syn_outside.specs.declared.whole.WriteError.{WriteError};
@@ -56,6 +56,7 @@ pub fn read_all<C: Cabinet>(
     ensures files { C.files cab.new ≡ C.files cab.old }
     ensures writes { C.write_faults cab.new ≡ C.write_faults cab.old }
     ensures later { C.read_faults cab.old ≤ C.read_faults cab.new }
+    ensures quiet { UnlessReadFault result (C.read_faults cab.new ≡ C.read_faults cab.old) }
 {
     let mut bytes = Vec::new(alloc);
     let (_turns, outcome) = take_all(cab, name, limit, &mut bytes);
@@ -86,6 +87,7 @@ fn take_all<C: Cabinet>(
     ensures files { C.files cab.new ≡ C.files cab.old }
     ensures writes { C.write_faults cab.new ≡ C.write_faults cab.old }
     ensures later { C.read_faults cab.old ≤ C.read_faults cab.new }
+    ensures quiet { UnlessReadFault result.1 (C.read_faults cab.new ≡ C.read_faults cab.old) }
 {
     let mut buffer = [0; TURN];
     let mut turns = 0;
@@ -117,6 +119,7 @@ fn take_part<C: Cabinet>(
     ensures files { C.files cab.new ≡ C.files cab.old }
     ensures writes { C.write_faults cab.new ≡ C.write_faults cab.old }
     ensures later { C.read_faults cab.old ≤ C.read_faults cab.new }
+    ensures quiet { UnlessFailed result (C.read_faults cab.new ≡ C.read_faults cab.old) }
 {
     let count = cab.read(name, bytes.len() as u64, buffer)?;
     match bytes.extend_from_slice(&buffer[..count]) {
@@ -133,6 +136,7 @@ pub fn put_all<S: Sink>(sink: &mut S, bytes: &[u8]) -> Result<(), WriteError>
     ensures part { OnErr result (AddsPrefix (S.text sink.old) (S.text sink.new) bytes.now) }
     ensures fault { result ≡ Err WriteError.Fault → Rose (S.faults sink.old) (S.faults sink.new) }
     ensures later { S.faults sink.old ≤ S.faults sink.new }
+    ensures quiet { UnlessWriteFault result (S.faults sink.new ≡ S.faults sink.old) }
     ensures nothing { bytes.now ≡ [] → sink.new ≡ sink.old }
     ensures well { bytes.now ≡ [] → IsOk result }
 {

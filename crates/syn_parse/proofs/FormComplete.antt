@@ -13,11 +13,11 @@ use Rattle.syn_form.specs.Grammar.{UnaryText, ConjText, DisjText, ImpText, FormT
 use Rattle.syn_parse.specs.declared.items.Item.{Item}
 use Rattle.syn_parse.specs.declared.items.Item.TheVariants as item
 use Rattle.syn_parse.specs.declared.form_frames.Tall.{Tall}
-use Rattle.syn_parse.specs.declared.form_frames.Bound.{Bound}
+use Rattle.syn_parse.specs.declared.form_frames.Prefix.{Prefix}
 use Rattle.syn_parse.specs.declared.form_reader.FormReader.{FormReader}
-use Rattle.syn_parse.specs.Items.{items_of_unary, items_of_conj, items_of_disj, items_of_imp, items_of_form}
+use Rattle.syn_parse.specs.inner.Items.{items_of_unary, items_of_conj, items_of_disj, items_of_imp, items_of_form}
 use Rattle.syn_parse.specs.Heights.{height_of, Low}
-use Rattle.syn_parse.specs.FormMachine.{run, start, finished, ended, parsed, wants, has, fresh, got, leaf, atom_of, atom_layer}
+use Rattle.syn_parse.specs.inner.FormMachine.{run, start, finished, ended, parsed, wants, has, fresh, got, leaf, atom_of, atom_layer}
 use Rattle.syn_parse.proofs.FormLevels.{height-True, height-False, height-Atom, height-Equal, height-And, height-Or, height-Implies, height-BothWays, height-Quantified, highest_last, tall, bounded, bounded-low, no_times, no_times_low, conj_with, disj_with, imp_onto, bound_onto, Held, conj_of, disj_of, imp_of, form_of, frame_of, form_done-is}
 use Rattle.syn_parse.proofs.FormSteps.{Place, held_by, place, place_frame, wanting, having, seen, leaf-is, got-is, and_place, or_place, or_on, arrow_on, both_on, or_on-is, arrow_on-is, and-is, or-is, arrow-is, both-is, close-is}
 
@@ -60,13 +60,13 @@ imp-whole (one_disj d) = refl
 imp-whole (implies d i) = ap (implies d) (imp-whole i)
 
 -- what is held after a conj, a disj and an imp
-abbrev pub held_conj : List Bound → ConjText → Option DisjText → List DisjText → Option ImpText → Held
+abbrev pub held_conj : List Prefix → ConjText → Option DisjText → List DisjText → Option ImpText → Held
 held_conj bs c o l s = held_by bs (earlier_conj c) o l s
 
-abbrev pub held_disj : List Bound → DisjText → List DisjText → Option ImpText → Held
+abbrev pub held_disj : List Prefix → DisjText → List DisjText → Option ImpText → Held
 held_disj bs d l s = held_conj bs (last_disj d) (earlier_disj d) l s
 
-abbrev pub held_imp : List Bound → List DisjText → ImpText → Option ImpText → Held
+abbrev pub held_imp : List Prefix → List DisjText → ImpText → Option ImpText → Held
 held_imp bs l i s = held_disj bs (last_imp i) (l ++ lefts_imp i) s
 
 abbrev pub end_disj : DisjText → UnaryText
@@ -75,13 +75,13 @@ end_disj d = last_conj (last_disj d)
 abbrev pub end_imp : ImpText → UnaryText
 end_imp i = end_disj (last_imp i)
 
-conj_of-whole : (bs : List Bound) (c : ConjText) (o : Option DisjText) (l : List DisjText) (s : Option ImpText) → conj_of (held_conj bs c o l s) (last_conj c) ≡ c
+conj_of-whole : (bs : List Prefix) (c : ConjText) (o : Option DisjText) (l : List DisjText) (s : Option ImpText) → conj_of (held_conj bs c o l s) (last_conj c) ≡ c
 conj_of-whole bs c o l s = conj-whole c
 
-disj_of-whole : (bs : List Bound) (d : DisjText) (l : List DisjText) (s : Option ImpText) → disj_of (held_disj bs d l s) (end_disj d) ≡ d
+disj_of-whole : (bs : List Prefix) (d : DisjText) (l : List DisjText) (s : Option ImpText) → disj_of (held_disj bs d l s) (end_disj d) ≡ d
 disj_of-whole bs d l s = ap (disj_with (earlier_disj d)) (conj-whole (last_disj d)) ∙ disj-whole d
 
-imp_of-whole : (bs : List Bound) (i : ImpText) (s : Option ImpText) → imp_of (held_imp bs [] i s) (end_imp i) ≡ i
+imp_of-whole : (bs : List Prefix) (i : ImpText) (s : Option ImpText) → imp_of (held_imp bs [] i s) (end_imp i) ≡ i
 imp_of-whole bs i s = ap (λ (z : DisjText). imp_onto (lefts_imp i) (one_disj z)) (disj_of-whole bs (last_imp i) (lefts_imp i) s) ∙ imp-whole i
 
 -- the parts of a low reading are low
@@ -150,13 +150,13 @@ atom-is r args =
 leaf_low : (p : Place) (out : List Place) (u : UnaryText) → height_of (syntax_of_unary u) ≡ 1 → Low (syntax_of_unary (no_times p.nots u)) → got (place_frame p) (map place_frame out) (leaf (syntax_of_unary u)) ≡ Some (seen (having p.held out (no_times p.nots u)))
 leaf_low p out u e l = ap (got (place_frame p) (map place_frame out)) (leaf-is (syntax_of_unary u) e) ∙ got_low p out u l
 
-arrow_low : (bs : List Bound) (d : DisjText) (l : List DisjText) (s : Option ImpText) (out : List Place) (rest : List Item) → Low (syntax_of_disj d) → run (item.Fixed mark.Arrow ∷ rest) (seen (having (held_disj bs d l s) out (end_disj d))) ≡ run rest (seen (wanting false (place 0 (held_by bs None None (l ++ d ∷ []) s)) out))
+arrow_low : (bs : List Prefix) (d : DisjText) (l : List DisjText) (s : Option ImpText) (out : List Place) (rest : List Item) → Low (syntax_of_disj d) → run (item.Fixed mark.Arrow ∷ rest) (seen (having (held_disj bs d l s) out (end_disj d))) ≡ run rest (seen (wanting false (place 0 (held_by bs None None (l ++ d ∷ []) s)) out))
 arrow_low bs d l s out rest low =
     let h = held_disj bs d l s in
     let whole : bounded (syntax_of_disj (disj_of h (end_disj d))) ≡ Some (tall (syntax_of_disj d)) = ap (λ (z : DisjText). bounded (syntax_of_disj z)) (disj_of-whole bs d l s) ∙ bounded-low (syntax_of_disj d) low in
     ap (on rest) (arrow-is h out (end_disj d) (low_end_disj d low) ∙ (ap (option_map (arrow_on h out)) whole ∙ ap (λ (z : FormReader). Some z) (arrow_on-is h out d)))
 
-or_low : (bs : List Bound) (d : DisjText) (l : List DisjText) (s : Option ImpText) (out : List Place) (rest : List Item) → Low (syntax_of_disj d) → run (item.Fixed mark.Or ∷ rest) (seen (having (held_disj bs d l s) out (end_disj d))) ≡ run rest (seen (wanting false (place 0 (held_by bs None (Some d) l s)) out))
+or_low : (bs : List Prefix) (d : DisjText) (l : List DisjText) (s : Option ImpText) (out : List Place) (rest : List Item) → Low (syntax_of_disj d) → run (item.Fixed mark.Or ∷ rest) (seen (having (held_disj bs d l s) out (end_disj d))) ≡ run rest (seen (wanting false (place 0 (held_by bs None (Some d) l s)) out))
 or_low bs d l s out rest low =
     let h = held_disj bs d l s in
     let c = last_disj d in
@@ -164,20 +164,20 @@ or_low bs d l s out rest low =
     let same : seen (wanting false (or_place h out (disj_with h.disj c)) out) ≡ seen (wanting false (or_place h out d) out) = ap (λ (z : DisjText). seen (wanting false (or_place h out z) out)) (disj-whole d) in
     ap (on rest) (or-is h out (end_disj d) (low_end_disj d low) ∙ (ap (option_map (or_on h out)) whole ∙ ap (λ (z : FormReader). Some z) (or_on-is h out c ∙ same)))
 
-and_low : (bs : List Bound) (c : ConjText) (o : Option DisjText) (l : List DisjText) (s : Option ImpText) (out : List Place) (rest : List Item) → run (item.Fixed mark.And ∷ rest) (seen (having (held_conj bs c o l s) out (last_conj c))) ≡ run rest (seen (wanting false (place 0 (held_by bs (Some c) o l s)) out))
+and_low : (bs : List Prefix) (c : ConjText) (o : Option DisjText) (l : List DisjText) (s : Option ImpText) (out : List Place) (rest : List Item) → run (item.Fixed mark.And ∷ rest) (seen (having (held_conj bs c o l s) out (last_conj c))) ≡ run rest (seen (wanting false (place 0 (held_by bs (Some c) o l s)) out))
 and_low bs c o l s out rest =
     let h = held_conj bs c o l s in
     let same : seen (wanting false (and_place h out (conj_of h (last_conj c))) out) ≡ seen (wanting false (and_place h out c) out) = ap (λ (z : ConjText). seen (wanting false (and_place h out z) out)) (conj-whole c) in
     ap (λ (z : FormReader). on rest (Some z)) (and-is h out (last_conj c) ∙ same)
 
-both_low : (bs : List Bound) (i : ImpText) (out : List Place) (rest : List Item) → Low (syntax_of_imp i) → run (item.Fixed mark.BothWays ∷ rest) (seen (having (held_imp bs [] i None) out (end_imp i))) ≡ run rest (seen (wanting false (place 0 (held_by bs None None [] (Some i))) out))
+both_low : (bs : List Prefix) (i : ImpText) (out : List Place) (rest : List Item) → Low (syntax_of_imp i) → run (item.Fixed mark.BothWays ∷ rest) (seen (having (held_imp bs [] i None) out (end_imp i))) ≡ run rest (seen (wanting false (place 0 (held_by bs None None [] (Some i))) out))
 both_low bs i out rest low =
     let h = held_imp bs [] i None in
     let whole : bounded (syntax_of_imp (imp_of h (end_imp i))) ≡ Some (tall (syntax_of_imp i)) = ap (λ (z : ImpText). bounded (syntax_of_imp z)) (imp_of-whole bs i None) ∙ bounded-low (syntax_of_imp i) low in
     ap (on rest) (both-is h out (end_imp i) (low_end_imp i low) refl ∙ ap (option_map (both_on h out)) whole)
 
 -- what is held after a form, with its last operand
-abbrev pub held_form : List Bound → FormText → Held
+abbrev pub held_form : List Prefix → FormText → Held
 held_form bs (one_imp i) = held_imp bs [] i None
 held_form bs (both_ways i j) = held_imp bs [] j (Some i)
 held_form bs (quantified q binders w) = held_form (bs ++ record { quantifier = q; binders = binders } ∷ []) w
@@ -187,11 +187,11 @@ end_form (one_imp i) = end_imp i
 end_form (both_ways i j) = end_imp j
 end_form (quantified q binders w) = end_form w
 
-bound_onto_last : (bs : List Bound) (b : Bound) (w : FormText) → bound_onto (bs ++ b ∷ []) w ≡ bound_onto bs (quantified b.quantifier b.binders w)
+bound_onto_last : (bs : List Prefix) (b : Prefix) (w : FormText) → bound_onto (bs ++ b ∷ []) w ≡ bound_onto bs (quantified b.quantifier b.binders w)
 bound_onto_last [] b w = refl
 bound_onto_last (x ∷ xs) b w = ap (quantified x.quantifier x.binders) (bound_onto_last xs b w)
 
-form_of-whole : (bs : List Bound) (w : FormText) → form_of (held_form bs w) (end_form w) ≡ bound_onto bs w
+form_of-whole : (bs : List Prefix) (w : FormText) → form_of (held_form bs w) (end_form w) ≡ bound_onto bs w
 form_of-whole bs (one_imp i) = ap (λ (z : ImpText). bound_onto bs (one_imp z)) (imp_of-whole bs i None)
 form_of-whole bs (both_ways i j) = ap (λ (z : ImpText). bound_onto bs (both_ways i z)) (imp_of-whole bs j (Some i))
 form_of-whole bs (quantified q binders w) = form_of-whole (bs ++ record { quantifier = q; binders = binders } ∷ []) w ∙ bound_onto_last bs (record { quantifier = q; binders = binders }) w
@@ -221,22 +221,22 @@ mutual
       let low : Low (syntax_of_form w) = no_times_low n (bracket w) l in
       around (items_of_form w) (item.Fixed mark.Close) [] rest (wants true fresh (map place_frame (place n h ∷ out))) ∙ (reads_form w (item.Fixed mark.Close ∷ rest) [] (place n h ∷ out) low ∙ close_low w (place n h) out rest l)
 
-  reads_conj : (c : ConjText) (rest : List Item) (first : Bool) (bs : List Bound) (o : Option DisjText) (l : List DisjText) (s : Option ImpText) (out : List Place) → Low (syntax_of_conj c) → run (items_of_conj c ++ rest) (seen (wanting first (place 0 (held_by bs None o l s)) out)) ≡ run rest (seen (having (held_conj bs c o l s) out (last_conj c)))
+  reads_conj : (c : ConjText) (rest : List Item) (first : Bool) (bs : List Prefix) (o : Option DisjText) (l : List DisjText) (s : Option ImpText) (out : List Place) → Low (syntax_of_conj c) → run (items_of_conj c ++ rest) (seen (wanting first (place 0 (held_by bs None o l s)) out)) ≡ run rest (seen (having (held_conj bs c o l s) out (last_conj c)))
   reads_conj (one_unary u) rest first bs o l s out low = reads_unary u rest first 0 (held_by bs None o l s) out low
   reads_conj (and_also c u) rest first bs o l s out low =
       around (items_of_conj c) (item.Fixed mark.And) (items_of_unary u) rest (seen (wanting first (place 0 (held_by bs None o l s)) out)) ∙ (reads_conj c (item.Fixed mark.And ∷ (items_of_unary u ++ rest)) first bs o l s out (low_earlier_conj c u low) ∙ (and_low bs c o l s out (items_of_unary u ++ rest) ∙ reads_unary u rest false 0 (held_by bs (Some c) o l s) out (low_last_conj (and_also c u) low)))
 
-  reads_disj : (d : DisjText) (rest : List Item) (first : Bool) (bs : List Bound) (l : List DisjText) (s : Option ImpText) (out : List Place) → Low (syntax_of_disj d) → run (items_of_disj d ++ rest) (seen (wanting first (place 0 (held_by bs None None l s)) out)) ≡ run rest (seen (having (held_disj bs d l s) out (end_disj d)))
+  reads_disj : (d : DisjText) (rest : List Item) (first : Bool) (bs : List Prefix) (l : List DisjText) (s : Option ImpText) (out : List Place) → Low (syntax_of_disj d) → run (items_of_disj d ++ rest) (seen (wanting first (place 0 (held_by bs None None l s)) out)) ≡ run rest (seen (having (held_disj bs d l s) out (end_disj d)))
   reads_disj (one_conj c) rest first bs l s out low = reads_conj c rest first bs None l s out low
   reads_disj (or_also d c) rest first bs l s out low =
       around (items_of_disj d) (item.Fixed mark.Or) (items_of_conj c) rest (seen (wanting first (place 0 (held_by bs None None l s)) out)) ∙ (reads_disj d (item.Fixed mark.Or ∷ (items_of_conj c ++ rest)) first bs l s out (low_earlier_disj d c low) ∙ (or_low bs d l s out (items_of_conj c ++ rest) (low_earlier_disj d c low) ∙ reads_conj c rest false bs (Some d) l s out (low_last_disj (or_also d c) low)))
 
-  reads_imp : (i : ImpText) (rest : List Item) (first : Bool) (bs : List Bound) (l : List DisjText) (s : Option ImpText) (out : List Place) → Low (syntax_of_imp i) → run (items_of_imp i ++ rest) (seen (wanting first (place 0 (held_by bs None None l s)) out)) ≡ run rest (seen (having (held_imp bs l i s) out (end_imp i)))
+  reads_imp : (i : ImpText) (rest : List Item) (first : Bool) (bs : List Prefix) (l : List DisjText) (s : Option ImpText) (out : List Place) → Low (syntax_of_imp i) → run (items_of_imp i ++ rest) (seen (wanting first (place 0 (held_by bs None None l s)) out)) ≡ run rest (seen (having (held_imp bs l i s) out (end_imp i)))
   reads_imp (one_disj d) rest first bs l s out low = reads_disj d rest first bs l s out low ∙ ap (λ (z : List DisjText). run rest (seen (having (held_disj bs d z s) out (end_disj d)))) (sym (append-nil l))
   reads_imp (implies d i) rest first bs l s out low =
       around (items_of_disj d) (item.Fixed mark.Arrow) (items_of_imp i) rest (seen (wanting first (place 0 (held_by bs None None l s)) out)) ∙ (reads_disj d (item.Fixed mark.Arrow ∷ (items_of_imp i ++ rest)) first bs l s out (low_left d i low) ∙ (arrow_low bs d l s out (items_of_imp i ++ rest) (low_left d i low) ∙ (reads_imp i rest false bs (l ++ d ∷ []) s out (low_right d i low) ∙ ap (λ (z : List DisjText). run rest (seen (having (held_disj bs (last_imp i) z s) out (end_imp i)))) (append_assoc l (d ∷ []) (lefts_imp i)))))
 
-  pub reads_form : (w : FormText) (rest : List Item) (bs : List Bound) (out : List Place) → Low (syntax_of_form w) → run (items_of_form w ++ rest) (seen (wanting true (place 0 (held_by bs None None [] None)) out)) ≡ run rest (seen (having (held_form bs w) out (end_form w)))
+  pub reads_form : (w : FormText) (rest : List Item) (bs : List Prefix) (out : List Place) → Low (syntax_of_form w) → run (items_of_form w ++ rest) (seen (wanting true (place 0 (held_by bs None None [] None)) out)) ≡ run rest (seen (having (held_form bs w) out (end_form w)))
   reads_form (one_imp i) rest bs out low = reads_imp i rest true bs [] None out low
   reads_form (both_ways i j) rest bs out low =
       around (items_of_imp i) (item.Fixed mark.BothWays) (items_of_imp j) rest (seen (wanting true (place 0 (held_by bs None None [] None)) out)) ∙ (reads_imp i (item.Fixed mark.BothWays ∷ (items_of_imp j ++ rest)) true bs [] None out (low_first i j low) ∙ (both_low bs i out (items_of_imp j ++ rest) (low_first i j low) ∙ reads_imp j rest false bs [] (Some i) out (low_second i j low)))

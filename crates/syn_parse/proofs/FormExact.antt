@@ -3,9 +3,9 @@ use Rattle.std.proofs.Common.{◌≡◌, ◌≤◌, List, Option, None, Some, Ma
 use Rattle.syn_form.specs.declared.syntax.FormSyntax.{FormSyntax}
 use Rattle.syn_form.specs.Grammar.{FormText, syntax_of_form}
 use Rattle.syn_parse.specs.declared.items.Item.{Item}
-use Rattle.syn_parse.specs.Items.{items_of_form}
+use Rattle.syn_parse.specs.inner.Items.{items_of_form}
 use Rattle.syn_parse.specs.Heights.{height_of}
-use Rattle.syn_parse.specs.FormMachine.{parsed}
+use Rattle.syn_parse.specs.inner.FormMachine.{parsed}
 use Rattle.syn_parse.proofs.FormComplete.{complete}
 use Rattle.syn_parse.proofs.FormSound.{sound}
 

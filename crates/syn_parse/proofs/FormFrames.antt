@@ -2,8 +2,8 @@
 use Rattle.std.proofs.Common.{◌≡◌, ℕ, suc, ◌+◌, ◌-◌, ◌<◌, List, [], ◌∷◌, ◌++◌, Option, None, Some, refl, sym, ◌∙◌, ap, arith}
 use Rattle.std.specs.Option.{option_and_then}
 use Rattle.syn_parse.specs.declared.form_frames.Tall.{Tall}
-use Rattle.syn_parse.specs.declared.form_frames.Bound.{Bound}
-use Rattle.syn_parse.specs.FormMachine.{negated, not_of, chain_imp, implies_of, under, quantified_of}
+use Rattle.syn_parse.specs.declared.form_frames.Prefix.{Prefix}
+use Rattle.syn_parse.specs.inner.FormMachine.{negated, not_of, chain_imp, implies_of, under, quantified_of}
 
 pub and_then-and_then : {A B C : Type 0} (g : B → Option C) (f : A → Option B) (o : Option A) → option_and_then g (option_and_then f o) ≡ option_and_then (λ x. option_and_then g (f x)) o
 and_then-and_then g f None = refl
@@ -17,7 +17,7 @@ pub chain_imp_last : (xs : List Tall) (x u : Tall) → chain_imp (xs ++ x ∷ []
 chain_imp_last [] x u = sym (and_then-some (implies_of x u))
 chain_imp_last (y ∷ ys) x u = ap (option_and_then (implies_of y)) (chain_imp_last ys x u) ∙ and_then-and_then (implies_of y) (chain_imp ys) (implies_of x u)
 
-pub under_last : (xs : List Bound) (x : Bound) (u : Tall) → under (xs ++ x ∷ []) u ≡ option_and_then (under xs) (quantified_of x u)
+pub under_last : (xs : List Prefix) (x : Prefix) (u : Tall) → under (xs ++ x ∷ []) u ≡ option_and_then (under xs) (quantified_of x u)
 under_last [] x u = sym (and_then-some (quantified_of x u))
 under_last (y ∷ ys) x u = ap (option_and_then (quantified_of y)) (under_last ys x u) ∙ and_then-and_then (quantified_of y) (under ys) (quantified_of x u)
 

@@ -13,11 +13,11 @@ use Rattle.syn_form.specs.declared.syntax.FormSyntax.TheVariants as form
 use Rattle.syn_form.specs.declared.syntax.FormSyntax.TheViews as view
 use Rattle.syn_form.specs.Grammar.{UnaryText, ConjText, DisjText, ImpText, FormText, no, one_unary, and_also, one_conj, or_also, one_disj, implies, one_imp, both_ways, quantified, syntax_of_unary, members_of_conj, syntax_of_conj, members_of_disj, syntax_of_disj, syntax_of_imp, syntax_of_form}
 use Rattle.syn_parse.specs.declared.form_frames.Tall.{Tall}
-use Rattle.syn_parse.specs.declared.form_frames.Parts.{Parts}
-use Rattle.syn_parse.specs.declared.form_frames.Bound.{Bound}
+use Rattle.syn_parse.specs.declared.form_frames.Members.{Members}
+use Rattle.syn_parse.specs.declared.form_frames.Prefix.{Prefix}
 use Rattle.syn_parse.specs.declared.form_frames.Frame.{Frame}
 use Rattle.syn_parse.specs.Heights.{height_of, height_step, max_height, Low}
-use Rattle.syn_parse.specs.FormMachine.{built, not_of, implies_of, both_of, quantified_of, negated, no_parts, with_member, chained, chain_and, chain_or, chain_imp, sided, under, or_done, imp_done, form_done}
+use Rattle.syn_parse.specs.inner.FormMachine.{built, not_of, implies_of, both_of, quantified_of, negated, no_members, with_member, chained, chain_and, chain_or, chain_imp, sided, under, or_done, imp_done, form_done}
 use Rattle.syn_parse.proofs.FormFrames.{and_then-and_then, and_then-some}
 
 -- the heights, case by case
@@ -151,7 +151,7 @@ no_times_low zero u l = l
 no_times_low (suc n) u l = let h = no_times_low n (no u) l in let e = height-Not (syntax_of_unary u) in omega (arith, h, e)
 
 -- the members of a chain, as the reader keeps them
-abbrev pub members : List FormSyntax → Parts
+abbrev pub members : List FormSyntax → Members
 members fs = record { forms = fs; height = greatest (map height_of fs) }
 
 pub member_more : (fs : List FormSyntax) (f : FormSyntax) → with_member (members fs) (tall f) ≡ members (fs ++ f ∷ [])
@@ -177,13 +177,13 @@ module _ (node : List FormSyntax → FormSyntax) (node-height : (fs : List FormS
       let n = greatest (map height_of fs) in
       through (λ (u : Tall). chained node fs n u) f (node (fs ++ f ∷ [])) (omega (arith, last_height)) (chained-filled node fs n (tall f) ne ∙ built-is (node (fs ++ f ∷ [])) (max n (height_of f)) last_height)
 
-abbrev pub conj_parts : Option ConjText → Parts
-conj_parts None = no_parts
-conj_parts (Some c) = members (members_of_conj c)
+abbrev pub ands_of : Option ConjText → Members
+ands_of None = no_members
+ands_of (Some c) = members (members_of_conj c)
 
-abbrev pub disj_parts : Option DisjText → Parts
-disj_parts None = no_parts
-disj_parts (Some d) = members (members_of_disj d)
+abbrev pub ors_of : Option DisjText → Members
+ors_of None = no_members
+ors_of (Some d) = members (members_of_disj d)
 
 -- an open chain with its next member
 abbrev pub conj_with : Option ConjText → UnaryText → ConjText
@@ -203,7 +203,7 @@ abbrev pub form_with : Option ImpText → ImpText → FormText
 form_with None i = one_imp i
 form_with (Some j) i = both_ways j i
 
-abbrev pub bound_onto : List Bound → FormText → FormText
+abbrev pub bound_onto : List Prefix → FormText → FormText
 bound_onto [] w = w
 bound_onto (b ∷ bs) w = quantified b.quantifier b.binders (bound_onto bs w)
 
@@ -215,11 +215,11 @@ disj-filled : (d : DisjText) → Filled (members_of_disj d)
 disj-filled (one_conj c) e = absurd (cc)
 disj-filled (or_also d c) e = last-filled (members_of_disj d) (syntax_of_conj c) e
 
-conj-bounded : (a : Option ConjText) (u : UnaryText) → option_and_then (chain_and (conj_parts a)) (bounded (syntax_of_unary u)) ≡ bounded (syntax_of_conj (conj_with a u))
+conj-bounded : (a : Option ConjText) (u : UnaryText) → option_and_then (chain_and (ands_of a)) (bounded (syntax_of_unary u)) ≡ bounded (syntax_of_conj (conj_with a u))
 conj-bounded None u = and_then-some (bounded (syntax_of_unary u))
 conj-bounded (Some c) u = chained-bounded view.And height-And (members_of_conj c) (conj-filled c) (syntax_of_unary u)
 
-disj-bounded : (o : Option DisjText) (c : ConjText) → option_and_then (chain_or (disj_parts o)) (bounded (syntax_of_conj c)) ≡ bounded (syntax_of_disj (disj_with o c))
+disj-bounded : (o : Option DisjText) (c : ConjText) → option_and_then (chain_or (ors_of o)) (bounded (syntax_of_conj c)) ≡ bounded (syntax_of_disj (disj_with o c))
 disj-bounded None c = and_then-some (bounded (syntax_of_conj c))
 disj-bounded (Some d) c = chained-bounded view.Or height-Or (members_of_disj d) (disj-filled d) (syntax_of_conj c)
 
@@ -245,7 +245,7 @@ side-bounded (Some j) i =
     let b = syntax_of_imp i in
     through (both_of (tall a)) b (view.BothWays a b) (omega (arith, height-BothWays a b)) (built-is (view.BothWays a b) (max (height_of a) (height_of b)) (height-BothWays a b))
 
-bound-bounded : (bs : List Bound) (w : FormText) → option_and_then (under bs) (bounded (syntax_of_form w)) ≡ bounded (syntax_of_form (bound_onto bs w))
+bound-bounded : (bs : List Prefix) (w : FormText) → option_and_then (under bs) (bounded (syntax_of_form w)) ≡ bounded (syntax_of_form (bound_onto bs w))
 bound-bounded [] w = and_then-some (bounded (syntax_of_form w))
 bound-bounded (b ∷ bs) w =
     let a = syntax_of_form (bound_onto bs w) in
@@ -256,7 +256,7 @@ bound-bounded (b ∷ bs) w =
 
 -- what was read of a form, before the `not`s of its next operand
 pub record Held : Type 0 where
-  pub bounds : List Bound
+  pub prefixes : List Prefix
   pub conj : Option ConjText
   pub disj : Option DisjText
   pub lefts : List DisjText
@@ -272,21 +272,21 @@ abbrev pub imp_of : Held → UnaryText → ImpText
 imp_of h u = imp_onto h.lefts (one_disj (disj_of h u))
 
 abbrev pub form_of : Held → UnaryText → FormText
-form_of h u = bound_onto h.bounds (form_with h.side (imp_of h u))
+form_of h u = bound_onto h.prefixes (form_with h.side (imp_of h u))
 
 -- the frame that holds it
 abbrev pub frame_of : ℕ → Held → Frame
-frame_of n h = record { bounds = h.bounds; nots = n; ands = conj_parts h.conj; ors = disj_parts h.disj; lefts = map tall_disj h.lefts; side = option_map tall_imp h.side }
+frame_of n h = record { prefixes = h.prefixes; nots = n; ands = ands_of h.conj; ors = ors_of h.disj; lefts = map tall_disj h.lefts; side = option_map tall_imp h.side }
 
 module _ (h : Held) (u : UnaryText) (l : Low (syntax_of_unary u)) where
-  pub and_done-is : chain_and (conj_parts h.conj) (tall (syntax_of_unary u)) ≡ bounded (syntax_of_conj (conj_of h u))
-  and_done-is = sym (ap (option_and_then (chain_and (conj_parts h.conj))) (bounded-low (syntax_of_unary u) l)) ∙ conj-bounded h.conj u
+  pub and_done-is : chain_and (ands_of h.conj) (tall (syntax_of_unary u)) ≡ bounded (syntax_of_conj (conj_of h u))
+  and_done-is = sym (ap (option_and_then (chain_and (ands_of h.conj))) (bounded-low (syntax_of_unary u) l)) ∙ conj-bounded h.conj u
 
-  pub or_done-is : or_done (conj_parts h.conj) (disj_parts h.disj) (tall (syntax_of_unary u)) ≡ bounded (syntax_of_disj (disj_of h u))
-  or_done-is = ap (option_and_then (chain_or (disj_parts h.disj))) and_done-is ∙ disj-bounded h.disj (conj_of h u)
+  pub or_done-is : or_done (ands_of h.conj) (ors_of h.disj) (tall (syntax_of_unary u)) ≡ bounded (syntax_of_disj (disj_of h u))
+  or_done-is = ap (option_and_then (chain_or (ors_of h.disj))) and_done-is ∙ disj-bounded h.disj (conj_of h u)
 
-  pub imp_done-is : imp_done (conj_parts h.conj) (disj_parts h.disj) (map tall_disj h.lefts) (tall (syntax_of_unary u)) ≡ bounded (syntax_of_imp (imp_of h u))
+  pub imp_done-is : imp_done (ands_of h.conj) (ors_of h.disj) (map tall_disj h.lefts) (tall (syntax_of_unary u)) ≡ bounded (syntax_of_imp (imp_of h u))
   imp_done-is = ap (option_and_then (chain_imp (map tall_disj h.lefts))) or_done-is ∙ imp-bounded h.lefts (one_disj (disj_of h u))
 
   pub form_done-is : (n : ℕ) → form_done (frame_of n h) (tall (syntax_of_unary u)) ≡ bounded (syntax_of_form (form_of h u))
-  form_done-is n = ap (λ (o : Option Tall). option_and_then (under h.bounds) (option_and_then (sided (option_map tall_imp h.side)) o)) imp_done-is ∙ (ap (option_and_then (under h.bounds)) (side-bounded h.side (imp_of h u)) ∙ bound-bounded h.bounds (form_with h.side (imp_of h u)))
+  form_done-is n = ap (λ (o : Option Tall). option_and_then (under h.prefixes) (option_and_then (sided (option_map tall_imp h.side)) o)) imp_done-is ∙ (ap (option_and_then (under h.prefixes)) (side-bounded h.side (imp_of h u)) ∙ bound-bounded h.prefixes (form_with h.side (imp_of h u)))

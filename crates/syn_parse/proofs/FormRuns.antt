@@ -5,7 +5,7 @@ use Rattle.syn_parse.specs.declared.items.Item.{Item}
 use Rattle.syn_parse.specs.declared.items.Item.TheVariants as item
 use Rattle.syn_parse.specs.declared.form_frames.Tall.{Tall}
 use Rattle.syn_parse.specs.declared.form_reader.FormReader.{FormReader}
-use Rattle.syn_parse.specs.FormMachine.{run, step, step_at}
+use Rattle.syn_parse.specs.inner.FormMachine.{run, step, step_at}
 
 both_runs : (xs ys : List Item) → ((s : FormReader) → run (xs ++ ys) s ≡ option_and_then (run ys) (run xs s)) → (o : Option FormReader) → option_and_then (run (xs ++ ys)) o ≡ option_and_then (run ys) (option_and_then (run xs) o)
 both_runs xs ys h None = refl

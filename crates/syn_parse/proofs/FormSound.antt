@@ -16,20 +16,20 @@ use Rattle.syn_form.specs.Grammar.{UnaryText, ConjText, DisjText, ImpText, FormT
 use Rattle.syn_parse.specs.declared.items.Item.{Item}
 use Rattle.syn_parse.specs.declared.items.Item.TheVariants as item
 use Rattle.syn_parse.specs.declared.form_frames.Tall.{Tall}
-use Rattle.syn_parse.specs.declared.form_frames.Bound.{Bound}
+use Rattle.syn_parse.specs.declared.form_frames.Prefix.{Prefix}
 use Rattle.syn_parse.specs.declared.form_reader.FormReader.{FormReader}
-use Rattle.syn_parse.specs.Items.{items_of_unary, items_of_conj, items_of_disj, items_of_imp, items_of_form}
+use Rattle.syn_parse.specs.inner.Items.{items_of_unary, items_of_conj, items_of_disj, items_of_imp, items_of_form}
 use Rattle.syn_parse.specs.Heights.{height_of, Low}
-use Rattle.syn_parse.specs.FormMachine.{run, step, start, finished, ended, parsed, has, got, leaf, atom_of, atom_layer, term_next, quantifier_next, mark_first, mark_after, both_next}
+use Rattle.syn_parse.specs.inner.FormMachine.{run, step, start, finished, ended, parsed, has, got, leaf, atom_of, atom_layer, term_next, quantifier_next, mark_first, mark_after, both_next}
 use Rattle.syn_parse.proofs.FormFrames.{and_then-some}
-use Rattle.syn_parse.proofs.FormLevels.{height-True, height-False, height-Atom, height-Equal, tall, bounded, bounded_some, bounded_then, no_times, conj_parts, disj_parts, conj_with, disj_with, tall_disj, tall_imp, imp_onto, form_with, bound_onto, Held, conj_of, disj_of, imp_of, form_of, frame_of, form_done-is}
+use Rattle.syn_parse.proofs.FormLevels.{height-True, height-False, height-Atom, height-Equal, tall, bounded, bounded_some, bounded_then, no_times, ands_of, ors_of, conj_with, disj_with, tall_disj, tall_imp, imp_onto, form_with, bound_onto, Held, conj_of, disj_of, imp_of, form_of, frame_of, form_done-is}
 use Rattle.syn_parse.proofs.FormSteps.{Place, held_by, place, place_frame, Ghost, wanting, having, seen, leaf-is, got-is, and_place, or_place, arrow_place, both_place, or_on, arrow_on, both_on, or_on-is, arrow_on-is, and-is, or-is, arrow-is, both-is, close-is}
 
 abbrev fixed : Mark → Item
 fixed m = item.Fixed m
 
 -- the items of what is held
-abbrev text_bounds : List Bound → List Item
+abbrev text_bounds : List Prefix → List Item
 text_bounds [] = []
 text_bounds (b ∷ bs) = item.Quantifier b.quantifier b.binders ∷ text_bounds bs
 
@@ -54,7 +54,7 @@ text_nots zero = []
 text_nots (suc n) = text_nots n ++ fixed mark.Not ∷ []
 
 abbrev text_held : Held → List Item
-text_held h = text_bounds h.bounds ++ (text_side h.side ++ (text_lefts h.lefts ++ (text_disj h.disj ++ text_conj h.conj)))
+text_held h = text_bounds h.prefixes ++ (text_side h.side ++ (text_lefts h.lefts ++ (text_disj h.disj ++ text_conj h.conj)))
 
 abbrev text_place : Place → List Item
 text_place p = text_held p.held ++ text_nots p.nots
@@ -87,7 +87,7 @@ side-text : (s : Option ImpText) (i : ImpText) → items_of_form (form_with s i)
 side-text None i = refl
 side-text (Some j) i = sym (append_assoc (items_of_imp j) (fixed mark.BothWays ∷ []) (items_of_imp i))
 
-bound-text : (bs : List Bound) (w : FormText) → items_of_form (bound_onto bs w) ≡ text_bounds bs ++ items_of_form w
+bound-text : (bs : List Prefix) (w : FormText) → items_of_form (bound_onto bs w) ≡ text_bounds bs ++ items_of_form w
 bound-text [] w = refl
 bound-text (b ∷ bs) w = ap (λ (z : List Item). item.Quantifier b.quantifier b.binders ∷ z) (bound-text bs w)
 
@@ -95,7 +95,7 @@ lefts_last : (l : List DisjText) (d : DisjText) → text_lefts (l ++ d ∷ []) �
 lefts_last [] d = refl
 lefts_last (x ∷ xs) d = ap (λ (z : List Item). items_of_disj x ++ fixed mark.Arrow ∷ z) (lefts_last xs d) ∙ sym (append_assoc (items_of_disj x) (fixed mark.Arrow ∷ text_lefts xs) (items_of_disj d ++ fixed mark.Arrow ∷ []))
 
-bounds_last : (bs : List Bound) (b : Bound) → text_bounds (bs ++ b ∷ []) ≡ text_bounds bs ++ item.Quantifier b.quantifier b.binders ∷ []
+bounds_last : (bs : List Prefix) (b : Prefix) → text_bounds (bs ++ b ∷ []) ≡ text_bounds bs ++ item.Quantifier b.quantifier b.binders ∷ []
 bounds_last [] b = refl
 bounds_last (x ∷ xs) b = ap (λ (z : List Item). item.Quantifier x.quantifier x.binders ∷ z) (bounds_last xs b)
 
@@ -106,15 +106,15 @@ module _ (h : Held) (u : UnaryText) where
   imp_of-text : items_of_imp (imp_of h u) ≡ text_lefts h.lefts ++ (text_disj h.disj ++ (text_conj h.conj ++ items_of_unary u))
   imp_of-text = imp-text h.lefts (one_disj (disj_of h u)) ∙ ap (λ (z : List Item). text_lefts h.lefts ++ z) disj_of-text
 
-  held_split : (x : List Item) → text_held h ++ x ≡ text_bounds h.bounds ++ (text_side h.side ++ (text_lefts h.lefts ++ (text_disj h.disj ++ (text_conj h.conj ++ x))))
+  held_split : (x : List Item) → text_held h ++ x ≡ text_bounds h.prefixes ++ (text_side h.side ++ (text_lefts h.lefts ++ (text_disj h.disj ++ (text_conj h.conj ++ x))))
   held_split x = simp append_assoc
 
   form_of-text : items_of_form (form_of h u) ≡ text_held h ++ items_of_unary u
-  form_of-text = bound-text h.bounds (form_with h.side (imp_of h u)) ∙ (ap (λ (z : List Item). text_bounds h.bounds ++ z) (side-text h.side (imp_of h u) ∙ ap (λ (z : List Item). text_side h.side ++ z) imp_of-text) ∙ sym (held_split (items_of_unary u)))
+  form_of-text = bound-text h.prefixes (form_with h.side (imp_of h u)) ∙ (ap (λ (z : List Item). text_bounds h.prefixes ++ z) (side-text h.side (imp_of h u) ∙ ap (λ (z : List Item). text_side h.side ++ z) imp_of-text) ∙ sym (held_split (items_of_unary u)))
 
 -- the items so far, and one more
 module _ (h : Held) (out : List Place) (u : UnaryText) where
-  told_split : (x : List Item) → text (having h out u) ++ x ≡ text_outs out ++ (text_bounds h.bounds ++ (text_side h.side ++ (text_lefts h.lefts ++ (text_disj h.disj ++ (text_conj h.conj ++ (items_of_unary u ++ x))))))
+  told_split : (x : List Item) → text (having h out u) ++ x ≡ text_outs out ++ (text_bounds h.prefixes ++ (text_side h.side ++ (text_lefts h.lefts ++ (text_disj h.disj ++ (text_conj h.conj ++ (items_of_unary u ++ x))))))
   told_split x = simp append_assoc
 
   told_and : text (wanting false (and_place h out (conj_of h u)) out) ≡ text (having h out u) ++ fixed mark.And ∷ []
@@ -141,12 +141,12 @@ told_not p out = simp append_assoc
 told_open : (p : Place) (out : List Place) → text (wanting true (place 0 (held_by [] None None [] None)) (p ∷ out)) ≡ text (wanting false p out) ++ fixed mark.Open ∷ []
 told_open p out = simp (append_assoc, append-nil)
 
-told_quantifier : (bs : List Bound) (b : Bound) (out : List Place) → text (wanting true (place 0 (held_by (bs ++ b ∷ []) None None [] None)) out) ≡ text (wanting true (place 0 (held_by bs None None [] None)) out) ++ item.Quantifier b.quantifier b.binders ∷ []
+told_quantifier : (bs : List Prefix) (b : Prefix) (out : List Place) → text (wanting true (place 0 (held_by (bs ++ b ∷ []) None None [] None)) out) ≡ text (wanting true (place 0 (held_by bs None None [] None)) out) ++ item.Quantifier b.quantifier b.binders ∷ []
 told_quantifier bs b out = rw (bounds_last bs b) (simp (append_assoc, append-nil))
 
 -- an operand is low, and where a quantifier may come only quantifiers were read of the form
 abbrev pub Fine : Ghost → Type 0
-Fine (wanting true p out) = (p.nots ≡ 0) × (p.held ≡ held_by p.held.bounds None None [] None)
+Fine (wanting true p out) = (p.nots ≡ 0) × (p.held ≡ held_by p.held.prefixes None None [] None)
 Fine (wanting false p out) = p.nots ≡ p.nots
 Fine (having h out u) = Low (syntax_of_unary u)
 
@@ -183,14 +183,14 @@ term_sound first p out t r e =
     let s = atom_at t a (out-TermSyntax t) refl is_atom in
     leaf_sound first p out (atom s.rel s.args) (item.Term t) r (ap (λ (z : TermSyntax). item.Term z ∷ []) s.term) (height-Atom s.rel s.args) (ap (λ (z : FormSyntax). got (place_frame p) (map place_frame out) (leaf z)) (sym s.atom_is) ∙ gives))
 
-quantifier_at : (bs : List Bound) (out : List Place) (q : Quantifier) (binders : List BinderSyntax) (r : FormReader) → quantifier_next true (frame_of 0 (held_by bs None None [] None)) (map place_frame out) q binders ≡ Some r → After (wanting true (place 0 (held_by bs None None [] None)) out) (item.Quantifier q binders) r
+quantifier_at : (bs : List Prefix) (out : List Place) (q : Quantifier) (binders : List BinderSyntax) (r : FormReader) → quantifier_next true (frame_of 0 (held_by bs None None [] None)) (map place_frame out) q binders ≡ Some r → After (wanting true (place 0 (held_by bs None None [] None)) out) (item.Quantifier q binders) r
 quantifier_at bs out q binders r e =
-    let b : Bound = record { quantifier = q; binders = binders } in
+    let b : Prefix = record { quantifier = q; binders = binders } in
     record { next = wanting true (place 0 (held_by (bs ++ b ∷ []) None None [] None)) out; is = cc; told = told_quantifier bs b out; fine = (refl, refl) }
 
 quantifier_sound : (first : Bool) (p : Place) (out : List Place) (q : Quantifier) (binders : List BinderSyntax) (r : FormReader) → Fine (wanting first p out) → quantifier_next first (place_frame p) (map place_frame out) q binders ≡ Some r → After (wanting first p out) (item.Quantifier q binders) r
 quantifier_sound false p out q binders r f e = absurd (cc)
-quantifier_sound true p out q binders r f e = subst₂ (λ (n : ℕ) (h : Held). quantifier_next true (frame_of n h) (map place_frame out) q binders ≡ Some r → After (wanting true (place n h) out) (item.Quantifier q binders) r) (sym f.0) (sym f.1) (quantifier_at p.held.bounds out q binders r) e
+quantifier_sound true p out q binders r f e = subst₂ (λ (n : ℕ) (h : Held). quantifier_next true (frame_of n h) (map place_frame out) q binders ≡ Some r → After (wanting true (place n h) out) (item.Quantifier q binders) r) (sym f.0) (sym f.1) (quantifier_at p.held.prefixes out q binders r) e
 
 not_sound : (first : Bool) (p : Place) (out : List Place) (r : FormReader) → seen (wanting false (place (p.nots + 1) p.held) out) ≡ r → After (wanting first p out) (fixed mark.Not) r
 not_sound first p out r e =
@@ -205,7 +205,7 @@ first_sound first p out mark.Open r e = record { next = wanting true (place 0 (h
 first_sound first p out _ r e = absurd (cc)
 
 both_none : (h : Held) (out : List Place) (u : Tall) (i : ImpText) → h.side ≡ Some i → both_next (frame_of 0 h) (map place_frame out) u ≡ None
-both_none h out u i e = ap (λ (s : Option ImpText). both_next (record { bounds = h.bounds; nots = 0; ands = conj_parts h.conj; ors = disj_parts h.disj; lefts = map tall_disj h.lefts; side = option_map tall_imp s }) (map place_frame out) u) e
+both_none h out u i e = ap (λ (s : Option ImpText). both_next (record { prefixes = h.prefixes; nots = 0; ands = ands_of h.conj; ors = ors_of h.disj; lefts = map tall_disj h.lefts; side = option_map tall_imp s }) (map place_frame out) u) e
 
 both_sound : (h : Held) (out : List Place) (u : UnaryText) (r : FormReader) (s : Option ImpText) → h.side ≡ s → Low (syntax_of_unary u) → both_next (frame_of 0 h) (map place_frame out) (tall (syntax_of_unary u)) ≡ Some r → After (having h out u) (fixed mark.BothWays) r
 both_sound h out u r None s l e =

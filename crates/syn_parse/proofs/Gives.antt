@@ -3,7 +3,7 @@ use Rattle.std.proofs.Common.{◌≡◌, ℕ, List, Option, None, Some, IfSome, 
 use Rattle.std.specs.Option.{option_and_then}
 use Rattle.syn_form.specs.declared.syntax.Lexeme.{Lexeme}
 use Rattle.syn_parse.specs.Lexemes.{IsWritten}
-use Rattle.syn_parse.specs.Passes.{Gives}
+use Rattle.syn_parse.specs.inner.Passes.{Gives}
 use Rattle.syn_parse.proofs.LexemeLaws.{one_writing}
 
 -- a text without lexemes gives nothing

@@ -7,9 +7,9 @@ use Rattle.syn_form.specs.declared.syntax.TermSyntax.{TermSyntax}
 use Rattle.syn_form.specs.Grammar.{words_of_term, words_of_form, words_of_out, UnaryText, ConjText, DisjText, ImpText, FormText, OutText, truth, falsity, atom, equality, no, bracket, one_unary, and_also, one_conj, or_also, one_disj, implies, one_imp, both_ways, quantified, give, choice}
 use Rattle.syn_parse.specs.declared.items.Item.{Item}
 use Rattle.syn_parse.specs.declared.items.Item.TheVariants as item
-use Rattle.syn_parse.specs.Items.{items_of_unary, items_of_conj, items_of_disj, items_of_imp, items_of_form, items_of_out, words_of_items}
-use Rattle.syn_parse.specs.BindingMachine.{pieces_of}
-use Rattle.syn_parse.specs.ItemMachine.{items_of}
+use Rattle.syn_parse.specs.inner.Items.{items_of_unary, items_of_conj, items_of_disj, items_of_imp, items_of_form, items_of_out, words_of_items}
+use Rattle.syn_parse.specs.inner.PhraseMachine.{phrases_of}
+use Rattle.syn_parse.specs.inner.ItemMachine.{items_of}
 use Rattle.syn_parse.specs.Written.{Written, WrittenUnary, WrittenConj, WrittenDisj, WrittenImp, WrittenForm, WrittenOut}
 use Rattle.syn_parse.proofs.ItemTexts.{words_of_items-form, words_of_items-out, words_of_items-term}
 use Rattle.syn_parse.proofs.ItemRuns.{Apart, Goes, Behind, Alone, stops, stands_alone, apart_read}
@@ -76,14 +76,14 @@ apart_out (choice f o p) w =
     subst (λ (z : List Item). Apart (item.Fixed mark.If ∷ z)) (sym (append_assoc (items_of_form f) (item.Fixed mark.Then ∷ items_of_out o) (item.Fixed mark.Else ∷ items_of_out p))) all
 
 -- the items of words that items have which keep apart
-words_read : (is : List Item) (ls : List Lexeme) → words_of_items is ≡ ls → Apart is → option_and_then items_of (pieces_of ls) ≡ Some is
-words_read is ls e a = ap (λ (z : List Lexeme). option_and_then items_of (pieces_of z)) (sym e) ∙ apart_read is a
+words_read : (is : List Item) (ls : List Lexeme) → words_of_items is ≡ ls → Apart is → option_and_then items_of (phrases_of ls) ≡ Some is
+words_read is ls e a = ap (λ (z : List Lexeme). option_and_then items_of (phrases_of z)) (sym e) ∙ apart_read is a
 
-pub complete_form : (w : FormText) → WrittenForm w → option_and_then items_of (pieces_of (words_of_form w)) ≡ Some (items_of_form w)
+pub complete_form : (w : FormText) → WrittenForm w → option_and_then items_of (phrases_of (words_of_form w)) ≡ Some (items_of_form w)
 complete_form w h = words_read (items_of_form w) (words_of_form w) (words_of_items-form w) (apart_form w h)
 
-pub complete_out : (w : OutText) → WrittenOut w → option_and_then items_of (pieces_of (words_of_out w)) ≡ Some (items_of_out w)
+pub complete_out : (w : OutText) → WrittenOut w → option_and_then items_of (phrases_of (words_of_out w)) ≡ Some (items_of_out w)
 complete_out w h = words_read (items_of_out w) (words_of_out w) (words_of_items-out w) (apart_out w h)
 
-pub complete_term : (t : TermSyntax) → Written t → option_and_then items_of (pieces_of (words_of_term t)) ≡ Some (item.Term t ∷ [])
+pub complete_term : (t : TermSyntax) → Written t → option_and_then items_of (phrases_of (words_of_term t)) ≡ Some (item.Term t ∷ [])
 complete_term t h = words_read (item.Term t ∷ []) (words_of_term t) (words_of_items-term t) (h, tt, tt)

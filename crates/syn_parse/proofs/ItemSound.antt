@@ -1,4 +1,4 @@
--- The items of pieces have the words of the pieces: what the reader of terms holds is made of the words read so far.
+-- The items of phrases have the words of the phrases: what the reader of terms holds is made of the words read so far.
 use Rattle.std.proofs.Common.{◌≡◌, ℕ, ◌+◌, ◌-◌, nat_lt, Bool, true, false, if◌then◌else◌, List, [], ◌∷◌, ◌++◌, Option, None, Some, option_map, refl, sym, ◌∙◌, ap, append_assoc, append-nil}
 use Rattle.std.proofs.lemmas.Option.{option_and_then_some}
 use denote.Hole.Carrier.{roll}
@@ -14,15 +14,15 @@ use Rattle.syn_form.specs.declared.syntax.TermSyntax.{TermSyntax, out-TermSyntax
 use Rattle.syn_form.specs.declared.syntax.TermSyntax.TheOpen.{TermSyntax-F}
 use Rattle.syn_form.specs.declared.syntax.TermSyntax.TheVariants as term
 use Rattle.syn_form.specs.Grammar.{fixed, head_lexeme, words_of_term, words_of_quantifier}
-use Rattle.syn_parse.specs.declared.binding.Piece.{Piece}
-use Rattle.syn_parse.specs.declared.binding.Piece.TheVariants as piece
+use Rattle.syn_parse.specs.declared.phrase_reader.Phrase.{Phrase}
+use Rattle.syn_parse.specs.declared.phrase_reader.Phrase.TheVariants as phrase
 use Rattle.syn_parse.specs.declared.items.Item.{Item}
 use Rattle.syn_parse.specs.declared.items.Item.TheVariants as item
 use Rattle.syn_parse.specs.declared.item_reader.Call.{Call}
 use Rattle.syn_parse.specs.declared.item_reader.ItemReader.{ItemReader}
-use Rattle.syn_parse.specs.BindingMachine.{words_of_piece, words_of_pieces}
-use Rattle.syn_parse.specs.Items.{words_of_item, words_of_items}
-use Rattle.syn_parse.specs.ItemMachine.{reads, start, placed_at, flushed, with_item, head_of, head_layer, call_of, opened, open_at, equals_at, outside, with_arg, closed_call, inside, inside_at, mark_at, word_next, quantifier_at, step, run, ended, ended_at, items_of}
+use Rattle.syn_parse.specs.inner.PhraseMachine.{words_of_phrase, words_of_phrases}
+use Rattle.syn_parse.specs.inner.Items.{words_of_item, words_of_items}
+use Rattle.syn_parse.specs.inner.ItemMachine.{reads, start, placed_at, flushed, emptied, with_next, with_item, head_of, head_layer, call_of, opened, open_at, equals_at, outside, with_arg, closed_call, inside, inside_at, mark_at, word_next, quantifier_at, step, run, ended, ended_at, items_of}
 use Rattle.syn_parse.proofs.Commas.{before_next, before_next-last, commas-last}
 use Rattle.syn_parse.proofs.TermShapes.{words-Number, words-RowVar, words-Alone, words-Applied}
 use Rattle.syn_parse.proofs.ItemTexts.{words_of_items-last}
@@ -76,7 +76,7 @@ item_sound r s i is e = go (flushed r.items r.left r.last) refl e
     no_calls : told r ≡ told_before r.items r.left [] ++ told_last r.last
     no_calls = ap (λ (z : List Call). told_before r.items r.left z ++ told_last r.last) is
 
-    go : (o : Option (List Item)) → flushed r.items r.left r.last ≡ o → option_map (λ (items : List Item). reads (items ++ i ∷ []) None r.calls r.count None) o ≡ Some s → told s ≡ told r ++ words_of_item i
+    go : (o : Option (List Item)) → flushed r.items r.left r.last ≡ o → option_map (with_next i) (option_map (emptied r) o) ≡ Some s → told s ≡ told r ++ words_of_item i
     go None f e = absurd (cc)
     go (Some now) f e =
         let w : told (reads (now ++ i ∷ []) None r.calls r.count None) ≡ words_of_items (now ++ i ∷ []) = ap (λ (z : List Call). told (reads (now ++ i ∷ []) None z r.count None)) is ∙ simp append-nil in
@@ -92,7 +92,7 @@ call_grouped : (a b c : List Lexeme) (l m : Lexeme) → (a ++ (b ++ (c ++ (l ∷
 call_grouped a b c l m = simp (append_assoc, append-nil)
 
 -- a bracket opens behind a head
-opened_sound : (items : List Item) (left : Option TermSyntax) (calls : List Call) (n : ℕ) (t : TermSyntax) (s : ItemReader) → opened items left calls n t ≡ Some s → told s ≡ (told_before items left calls ++ words_of_term t) ++ fixed mark.Open ∷ []
+opened_sound : (items : List Item) (left : Option TermSyntax) (calls : List Call) (n : ℕ) (t : TermSyntax) (s : ItemReader) → opened (reads items left calls n None) t ≡ Some s → told s ≡ (told_before items left calls ++ words_of_term t) ++ fixed mark.Open ∷ []
 opened_sound items left calls n t s e = go (nat_lt n 1263) (head_of t) refl e
   where
     go : (b : Bool) (o : Option HeadName) → head_of t ≡ o → (if b then option_map (λ (h : HeadName). reads items left (call_of h ∷ calls) (n + 1) None) o else None) ≡ Some s → told s ≡ (told_before items left calls ++ words_of_term t) ++ fixed mark.Open ∷ []
@@ -147,7 +147,7 @@ module _ (items : List Item) (left : Option TermSyntax) (c : Call) (calls : List
       let words : words_of_term (closed_call c t) ≡ head_lexeme c.head ∷ fixed mark.Open ∷ ((before_next words_of_term c.args ++ words_of_term t) ++ fixed mark.Close ∷ []) = words-Applied c.head (c.args ++ t ∷ []) ∙ ap (λ (z : List Lexeme). head_lexeme c.head ∷ fixed mark.Open ∷ (z ++ fixed mark.Close ∷ [])) (commas-last words_of_term c.args t) in
       some_same ((told_before items left (c ∷ calls) ++ words_of_term t) ++ fixed mark.Close ∷ []) (reads items left calls (n - 1) (Some (closed_call c t))) s e (ap (λ (z : List Lexeme). told_before items left calls ++ z) words ∙ close_grouped (words_of_items items) (told_left left) (told_calls calls) (before_next words_of_term c.args) (words_of_term t) (head_lexeme c.head) (fixed mark.Open) (fixed mark.Close))
 
-  inside_sound : (m : Mark) → inside items left c calls n t m ≡ Some s → Next (fixed m)
+  inside_sound : (m : Mark) → inside (reads items left calls n None) c t m ≡ Some s → Next (fixed m)
   inside_sound mark.Open e = opened_sound items left (c ∷ calls) n t s e
   inside_sound mark.Comma e = comma_sound e
   inside_sound mark.Close e = close_sound e
@@ -172,22 +172,27 @@ quantifier_sound : (r s : ItemReader) (calls : List Call) (q : Quantifier) (bind
 quantifier_sound r s [] q binders a e = item_sound r s (item.Quantifier q binders) a e
 quantifier_sound r s (c ∷ calls) q binders a e = absurd (cc)
 
-step_sound : (r s : ItemReader) (p : Piece) → step r p ≡ Some s → told s ≡ told r ++ words_of_piece p
-step_sound r s (piece.Word l) e = word_sound r s l e
-step_sound r s (piece.Quantifier q binders) e = quantifier_sound r s r.calls q binders refl e
+step_sound : (r s : ItemReader) (p : Phrase) → step r p ≡ Some s → told s ≡ told r ++ words_of_phrase p
+step_sound r s (phrase.Word l) e = word_sound r s l e
+step_sound r s (phrase.Quantifier q binders) e = quantifier_sound r s r.calls q binders refl e
 
-run_sound : (ps : List Piece) (r s : ItemReader) → run ps r ≡ Some s → told s ≡ told r ++ words_of_pieces ps
+run_sound : (ps : List Phrase) (r s : ItemReader) → run ps r ≡ Some s → told s ≡ told r ++ words_of_phrases ps
 run_sound [] r s e = some_same (told r ++ []) r s e (sym (append-nil (told r)))
 run_sound (p ∷ ps) r s e =
     option_and_then_some (run ps) (step r p) s e (λ x one rest.
-    run_sound ps x s rest ∙ (ap (λ (z : List Lexeme). z ++ words_of_pieces ps) (step_sound r x p one) ∙ append_assoc (told r) (words_of_piece p) (words_of_pieces ps)))
+    run_sound ps x s rest ∙ (ap (λ (z : List Lexeme). z ++ words_of_phrases ps) (step_sound r x p one) ∙ append_assoc (told r) (words_of_phrase p) (words_of_phrases ps)))
+
+-- at the end nothing but the items counts
+pub flushed_items : (r : ItemReader) (o : Option (List Item)) (items : List Item) → option_map (λ (s : ItemReader). s.items) (option_map (emptied r) o) ≡ Some items → o ≡ Some items
+flushed_items r None items e = e
+flushed_items r (Some now) items e = e
 
 ended_sound : (r : ItemReader) (calls : List Call) (items : List Item) → r.calls ≡ calls → ended_at calls r ≡ Some items → words_of_items items ≡ told r
-ended_sound r [] items a e = flushed_sound r.items items r.left r.last e ∙ ap (λ (z : List Call). told_before r.items r.left z ++ told_last r.last) (sym a)
+ended_sound r [] items a e = flushed_sound r.items items r.left r.last (flushed_items r (flushed r.items r.left r.last) items e) ∙ ap (λ (z : List Call). told_before r.items r.left z ++ told_last r.last) (sym a)
 ended_sound r (c ∷ calls) items a e = absurd (cc)
 
--- the items have the words of the pieces that they were read from
-pub items_sound : (ps : List Piece) (items : List Item) → items_of ps ≡ Some items → words_of_items items ≡ words_of_pieces ps
+-- the items have the words of the phrases that they were read from
+pub items_sound : (ps : List Phrase) (items : List Item) → items_of ps ≡ Some items → words_of_items items ≡ words_of_phrases ps
 items_sound ps items e =
     option_and_then_some ended (run ps start) items e (λ r all end.
     ended_sound r r.calls items refl end ∙ run_sound ps start r all)

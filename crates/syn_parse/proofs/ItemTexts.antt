@@ -10,7 +10,7 @@ use Rattle.syn_form.specs.declared.syntax.TermSyntax.TheViews as term_view
 use Rattle.syn_form.specs.Grammar.{fixed, words_of_term, words_of_quantifier, words_of_unary, words_of_conj, words_of_disj, words_of_imp, words_of_form, words_of_out, UnaryText, ConjText, DisjText, ImpText, FormText, OutText, truth, falsity, atom, equality, no, bracket, one_unary, and_also, one_conj, or_also, one_disj, implies, one_imp, both_ways, quantified, give, choice}
 use Rattle.syn_parse.specs.declared.items.Item.{Item}
 use Rattle.syn_parse.specs.declared.items.Item.TheVariants as item
-use Rattle.syn_parse.specs.Items.{words_of_item, words_of_items, items_of_unary, items_of_conj, items_of_disj, items_of_imp, items_of_form, items_of_out}
+use Rattle.syn_parse.specs.inner.Items.{words_of_item, words_of_items, items_of_unary, items_of_conj, items_of_disj, items_of_imp, items_of_form, items_of_out}
 use Rattle.syn_parse.proofs.TermShapes.{words-Applied}
 
 pub words_of_items-append : (xs ys : List Item) → words_of_items (xs ++ ys) ≡ words_of_items xs ++ words_of_items ys

@@ -16,20 +16,21 @@ use Rattle.syn_form.specs.declared.syntax.Quantifier.{Quantifier}
 use Rattle.syn_form.specs.declared.syntax.BinderSyntax.{BinderSyntax}
 use Rattle.syn_form.specs.declared.syntax.TermSyntax.{TermSyntax}
 use Rattle.syn_form.specs.declared.syntax.TermSyntax.TheVariants as term
-use Rattle.syn_parse.specs.declared.binding.Piece.{Piece}
-use Rattle.syn_parse.specs.declared.binding.Piece.TheVariants as piece
-use Rattle.syn_parse.specs.declared.binding.Stage.{Stage}
-use Rattle.syn_parse.specs.declared.binding.Stage.TheVariants as stage
-use Rattle.syn_parse.specs.declared.binding.Binding.{Binding}
-use Rattle.syn_parse.specs.declared.binding.PieceReader.{PieceReader}
+use Rattle.syn_parse.specs.declared.phrase_reader.Phrase.{Phrase}
+use Rattle.syn_parse.specs.declared.phrase_reader.Phrase.TheVariants as phrase
+use Rattle.syn_parse.specs.declared.phrase_reader.BinderStage.{BinderStage}
+use Rattle.syn_parse.specs.declared.phrase_reader.BinderStage.TheVariants as stage
+use Rattle.syn_parse.specs.declared.phrase_reader.Binding.{Binding}
+use Rattle.syn_parse.specs.declared.phrase_reader.PhraseReader.{PhraseReader}
 use Rattle.syn_parse.specs.declared.items.Item.{Item}
 use Rattle.syn_parse.specs.declared.items.Item.TheVariants as item
 use Rattle.syn_parse.specs.declared.item_reader.Call.{Call}
 use Rattle.syn_parse.specs.declared.item_reader.ItemReader.{ItemReader}
-use Rattle.syn_parse.specs.BindingMachine as binding
-use Rattle.syn_parse.specs.ItemMachine.{reads, start, placed_at, flushed, with_item, head_of, call_of, opened, open_at, equals_at, outside, with_arg, closed_call, inside, inside_at, mark_at, word_next, quantifier_at, step, run, ended, ended_at, items_of}
-use Rattle.syn_parse.specs.Passes.{items_from}
+use Rattle.syn_parse.specs.inner.PhraseMachine as binding
+use Rattle.syn_parse.specs.inner.ItemMachine.{reads, start, placed_at, flushed, emptied, with_next, with_item, head_of, call_of, opened, open_at, equals_at, outside, with_arg, closed_call, inside, inside_at, mark_at, word_next, quantifier_at, step, run, ended, ended_at, items_of}
+use Rattle.syn_parse.specs.inner.Passes.{items_from}
 use Rattle.syn_parse.specs.Written.{Written, term_height, has_args, some_all}
+use Rattle.syn_parse.proofs.ItemSound.{flushed_items}
 use Rattle.syn_parse.proofs.TermShapes.{height-Number, height-RowVar, height-Alone, height-Applied, has_args-Number, has_args-RowVar, has_args-Alone, has_args-Applied}
 
 -- an item whose terms are written, and whose quantifier binds a name or more
@@ -40,12 +41,12 @@ WrittenItem (item.Quantifier q binders) = 1 ≤ length binders
 WrittenItem (item.Fixed m) = Unit {0}
 
 -- a quantifier binds a name or more
-abbrev WrittenPiece : Piece → Type 0
-WrittenPiece (piece.Word l) = Unit {0}
-WrittenPiece (piece.Quantifier q binders) = 1 ≤ length binders
+abbrev WrittenPhrase : Phrase → Type 0
+WrittenPhrase (phrase.Word l) = Unit {0}
+WrittenPhrase (phrase.Quantifier q binders) = 1 ≤ length binders
 
 -- behind a sort there is a binder
-abbrev SomeBound : List BinderSyntax → Stage → Type 0
+abbrev SomeBound : List BinderSyntax → BinderStage → Type 0
 SomeBound bs stage.Next = 1 ≤ length bs
 SomeBound bs _ = Unit {0}
 
@@ -53,70 +54,69 @@ abbrev FineBinding : Option Binding → Type 0
 FineBinding None = Unit {0}
 FineBinding (Some b) = SomeBound b.binders b.stage
 
-abbrev FinePieces : PieceReader → Type 0
-FinePieces r = All WrittenPiece r.done × FineBinding r.pending
+abbrev FinePhrases : PhraseReader → Type 0
+FinePhrases r = All WrittenPhrase r.done × FineBinding r.pending
 
-same_pieces : (s r : PieceReader) → Some s ≡ Some r → FinePieces s → FinePieces r
-same_pieces s r e f = let is : s ≡ r = cc in subst (λ (z : PieceReader). FinePieces z) is f
-
--- a quantifier that is open
-abbrev holds : List Piece → Quantifier → List BinderSyntax → Stage → PieceReader
-holds done q bs s = record { done = done; pending = Some (record { quantifier = q; binders = bs; stage = s }) }
+same_phrases : (s r : PhraseReader) → Some s ≡ Some r → FinePhrases s → FinePhrases r
+same_phrases s r e f = let is : s ≡ r = cc in subst (λ (z : PhraseReader). FinePhrases z) is f
 
 one_more : (bs : List BinderSyntax) (b : BinderSyntax) → 1 ≤ length (bs ++ b ∷ [])
 one_more bs b = let e = length-append bs (b ∷ []) in omega arith
 
-module _ (done : List Piece) (w : All WrittenPiece done) where
-  outside_pieces : (l : Lexeme) → FinePieces (binding.outside done l)
-  outside_pieces (lexeme.Fixed mark.ForAll) = (w, tt)
-  outside_pieces (lexeme.Fixed mark.ForSome) = (w, tt)
-  outside_pieces (lexeme.Fixed m) = (All-push WrittenPiece done (piece.Word (lexeme.Fixed m)) w tt, tt)
-  outside_pieces l = (All-push WrittenPiece done (piece.Word l) w tt, tt)
+module _ (done : List Phrase) (w : All WrittenPhrase done) where
+  outside_phrases : (l : Lexeme) → FinePhrases (binding.outside done l)
+  outside_phrases (lexeme.Fixed mark.ForAll) = (w, tt)
+  outside_phrases (lexeme.Fixed mark.ForSome) = (w, tt)
+  outside_phrases (lexeme.Fixed m) = (All-push WrittenPhrase done (phrase.Word (lexeme.Fixed m)) w tt, tt)
+  outside_phrases l = (All-push WrittenPhrase done (phrase.Word l) w tt, tt)
 
   module _ (q : Quantifier) (bs : List BinderSyntax) where
-    name_pieces : (l : Lexeme) (r : PieceReader) → binding.name_next done q bs l ≡ Some r → FinePieces r
-    name_pieces (lexeme.Name x) r e = same_pieces (holds done q bs (stage.Colon x)) r e (w, tt)
-    name_pieces _ r e = absurd (cc)
+    name_phrases : (l : Lexeme) (r : PhraseReader) → binding.name_next done q bs l ≡ Some r → FinePhrases r
+    name_phrases (lexeme.Name x) r e = same_phrases (binding.holds done q bs (stage.Colon x)) r e (w, tt)
+    name_phrases _ r e = absurd (cc)
 
-    colon_pieces : (x : List ℕ) (l : Lexeme) (r : PieceReader) → binding.colon_next done q bs x l ≡ Some r → FinePieces r
-    colon_pieces x (lexeme.Fixed mark.Colon) r e = same_pieces (holds done q bs (stage.Sort x)) r e (w, tt)
-    colon_pieces x _ r e = absurd (cc)
+    colon_phrases : (x : List ℕ) (l : Lexeme) (r : PhraseReader) → binding.colon_next done q bs x l ≡ Some r → FinePhrases r
+    colon_phrases x (lexeme.Fixed mark.Colon) r e = same_phrases (binding.holds done q bs (stage.Sort x)) r e (w, tt)
+    colon_phrases x _ r e = absurd (cc)
 
-    sort_pieces : (x : List ℕ) (l : Lexeme) (r : PieceReader) → binding.sort_next done q bs x l ≡ Some r → FinePieces r
-    sort_pieces x l r e =
-        option_and_then_some (λ (s : List ℕ). binding.at_stage done q (binding.with_binder bs x s) stage.Next) (binding.sort_of l) r e (λ s first second.
-        same_pieces (holds done q (binding.with_binder bs x s) stage.Next) r second (w, one_more bs (record { name = x; sort = s })))
+    sort_phrases : (x : List ℕ) (l : Lexeme) (r : PhraseReader) → binding.sort_next done q bs x l ≡ Some r → FinePhrases r
+    sort_phrases x l r e =
+        by (binding.sort_of l) e
+      where
+        by : (o : Option (List ℕ)) → option_map (λ (s : List ℕ). binding.holds done q (binding.with_binder bs x s) stage.Next) o ≡ Some r → FinePhrases r
+        by None e = absurd (cc)
+        by (Some s) e = same_phrases (binding.holds done q (binding.with_binder bs x s) stage.Next) r e (w, one_more bs (record { name = x; sort = s }))
 
-    stop_pieces : (l : Lexeme) (r : PieceReader) → 1 ≤ length bs → binding.stop_next done q bs l ≡ Some r → FinePieces r
-    stop_pieces (lexeme.Fixed mark.Comma) r f e = same_pieces (holds done q bs stage.Name) r e (w, tt)
-    stop_pieces (lexeme.Fixed mark.Dot) r f e = same_pieces (binding.closed (done ++ piece.Quantifier q bs ∷ [])) r e (All-push WrittenPiece done (piece.Quantifier q bs) w f, tt)
-    stop_pieces _ r f e = absurd (cc)
+    stop_phrases : (l : Lexeme) (r : PhraseReader) → 1 ≤ length bs → binding.stop_next done q bs l ≡ Some r → FinePhrases r
+    stop_phrases (lexeme.Fixed mark.Comma) r f e = same_phrases (binding.holds done q bs stage.Name) r e (w, tt)
+    stop_phrases (lexeme.Fixed mark.Dot) r f e = same_phrases (binding.closed (done ++ phrase.Quantifier q bs ∷ [])) r e (All-push WrittenPhrase done (phrase.Quantifier q bs) w f, tt)
+    stop_phrases _ r f e = absurd (cc)
 
-    at_pieces : (s : Stage) (l : Lexeme) (r : PieceReader) → SomeBound bs s → binding.at done q bs s l ≡ Some r → FinePieces r
-    at_pieces stage.Name l r f e = name_pieces l r e
-    at_pieces (stage.Colon x) l r f e = colon_pieces x l r e
-    at_pieces (stage.Sort x) l r f e = sort_pieces x l r e
-    at_pieces stage.Next l r f e = stop_pieces l r f e
+    at_phrases : (s : BinderStage) (l : Lexeme) (r : PhraseReader) → SomeBound bs s → binding.at done q bs s l ≡ Some r → FinePhrases r
+    at_phrases stage.Name l r f e = name_phrases l r e
+    at_phrases (stage.Colon x) l r f e = colon_phrases x l r e
+    at_phrases (stage.Sort x) l r f e = sort_phrases x l r e
+    at_phrases stage.Next l r f e = stop_phrases l r f e
 
-step_pieces : (done : List Piece) (p : Option Binding) (l : Lexeme) (r : PieceReader) → All WrittenPiece done → FineBinding p → binding.step_at p done l ≡ Some r → FinePieces r
-step_pieces done None l r w f e = same_pieces (binding.outside done l) r e (outside_pieces done w l)
-step_pieces done (Some b) l r w f e = at_pieces done w b.quantifier b.binders b.stage l r f e
+step_phrases : (done : List Phrase) (p : Option Binding) (l : Lexeme) (r : PhraseReader) → All WrittenPhrase done → FineBinding p → binding.step_at p done l ≡ Some r → FinePhrases r
+step_phrases done None l r w f e = same_phrases (binding.outside done l) r e (outside_phrases done w l)
+step_phrases done (Some b) l r w f e = at_phrases done w b.quantifier b.binders b.stage l r f e
 
-run_pieces : (ls : List Lexeme) (s r : PieceReader) → FinePieces s → binding.run ls s ≡ Some r → FinePieces r
-run_pieces [] s r f e = same_pieces s r e f
-run_pieces (l ∷ ls) s r f e =
+run_phrases : (ls : List Lexeme) (s r : PhraseReader) → FinePhrases s → binding.run ls s ≡ Some r → FinePhrases r
+run_phrases [] s r f e = same_phrases s r e f
+run_phrases (l ∷ ls) s r f e =
     option_and_then_some (binding.run ls) (binding.step s l) r e (λ x one rest.
-    run_pieces ls x r (step_pieces s.done s.pending l x f.0 f.1 one) rest)
+    run_phrases ls x r (step_phrases s.done s.pending l x f.0 f.1 one) rest)
 
-ended_pieces : (done : List Piece) (p : Option Binding) (ps : List Piece) → All WrittenPiece done → binding.ended_at p done ≡ Some ps → All WrittenPiece ps
-ended_pieces done None ps w e = let is : done ≡ ps = cc in subst (All WrittenPiece) is w
-ended_pieces done (Some b) ps w e = absurd (cc)
+ended_phrases : (done : List Phrase) (p : Option Binding) (ps : List Phrase) → All WrittenPhrase done → binding.ended_at p done ≡ Some ps → All WrittenPhrase ps
+ended_phrases done None ps w e = let is : done ≡ ps = cc in subst (All WrittenPhrase) is w
+ended_phrases done (Some b) ps w e = absurd (cc)
 
 -- each quantifier that is put together binds a name or more
-written_pieces : (ls : List Lexeme) (ps : List Piece) → binding.pieces_of ls ≡ Some ps → All WrittenPiece ps
-written_pieces ls ps e =
+written_phrases : (ls : List Lexeme) (ps : List Phrase) → binding.phrases_of ls ≡ Some ps → All WrittenPhrase ps
+written_phrases ls ps e =
     option_and_then_some binding.ended (binding.run ls (binding.closed [])) ps e (λ r all end.
-    ended_pieces r.done r.pending ps (run_pieces ls (binding.closed []) r (All-nil WrittenPiece, tt) all).0 end)
+    ended_phrases r.done r.pending ps (run_phrases ls (binding.closed []) r (All-nil WrittenPhrase, tt) all).0 end)
 
 -- a term that is low where so many calls are open
 abbrev Fits : ℕ → TermSyntax → Type 0
@@ -196,14 +196,14 @@ none_open calls n e f = subst (λ (z : List Call). FineCalls z n) e f
 item_fine : (r s : ItemReader) (i : Item) → Fine r → r.calls ≡ [] → WrittenItem i → with_item r i ≡ Some s → Fine s
 item_fine r s i f is w e = go (flushed r.items r.left r.last) refl e
   where
-    go : (o : Option (List Item)) → flushed r.items r.left r.last ≡ o → option_map (λ (items : List Item). reads (items ++ i ∷ []) None r.calls r.count None) o ≡ Some s → Fine s
+    go : (o : Option (List Item)) → flushed r.items r.left r.last ≡ o → option_map (with_next i) (option_map (emptied r) o) ≡ Some s → Fine s
     go None h e = absurd (cc)
     go (Some now) h e =
         let all = flushed_fine r.items now r.left r.last r.count (none_open r.calls r.count is f.filled) f.written f.side f.low h in
         same_reader (reads (now ++ i ∷ []) None r.calls r.count None) s e (record { written = All-push WrittenItem now i all w; side = tt; filled = f.filled; few = f.few; low = tt })
 
 -- a bracket opens behind a head
-opened_fine : (items : List Item) (left : Option TermSyntax) (calls : List Call) (n : ℕ) (t : TermSyntax) (s : ItemReader) → All WrittenItem items → FineLeft left → FineCalls calls n → opened items left calls n t ≡ Some s → Fine s
+opened_fine : (items : List Item) (left : Option TermSyntax) (calls : List Call) (n : ℕ) (t : TermSyntax) (s : ItemReader) → All WrittenItem items → FineLeft left → FineCalls calls n → opened (reads items left calls n None) t ≡ Some s → Fine s
 opened_fine items left calls n t s w side filled e = go (nat_lt n 1263) (head_of t) refl e
   where
     go : (b : Bool) (o : Option HeadName) → nat_lt n 1263 ≡ b → (if b then option_map (λ (h : HeadName). reads items left (call_of h ∷ calls) (n + 1) None) o else None) ≡ Some s → Fine s
@@ -230,7 +230,7 @@ outside_fine r s mark.Equals f c e = equals_fine r s r.left r.last f refl c e
 outside_fine r s m f c e = item_fine r s (item.Fixed m) f c tt e
 
 module _ (items : List Item) (left : Option TermSyntax) (c : Call) (calls : List Call) (n : ℕ) (t : TermSyntax) (s : ItemReader) (f : Holds items left (c ∷ calls) n (Some t)) where
-  inside_fine : (m : Mark) → inside items left c calls n t m ≡ Some s → Fine s
+  inside_fine : (m : Mark) → inside (reads items left calls n None) c t m ≡ Some s → Fine s
   inside_fine mark.Open e = opened_fine items left (c ∷ calls) n t s f.written f.side f.filled e
   inside_fine mark.Comma e =
       let filled = f.filled in
@@ -260,18 +260,18 @@ quantifier_fine : (r s : ItemReader) (calls : List Call) (q : Quantifier) (binde
 quantifier_fine r s [] q binders f w a e = item_fine r s (item.Quantifier q binders) f a w e
 quantifier_fine r s (c ∷ calls) q binders f w a e = absurd (cc)
 
-step_fine : (r s : ItemReader) (p : Piece) → Fine r → WrittenPiece p → step r p ≡ Some s → Fine s
-step_fine r s (piece.Word l) f w e = word_fine r s l f e
-step_fine r s (piece.Quantifier q binders) f w e = quantifier_fine r s r.calls q binders f w refl e
+step_fine : (r s : ItemReader) (p : Phrase) → Fine r → WrittenPhrase p → step r p ≡ Some s → Fine s
+step_fine r s (phrase.Word l) f w e = word_fine r s l f e
+step_fine r s (phrase.Quantifier q binders) f w e = quantifier_fine r s r.calls q binders f w refl e
 
-run_fine : (ps : List Piece) (r s : ItemReader) → Fine r → All WrittenPiece ps → run ps r ≡ Some s → Fine s
+run_fine : (ps : List Phrase) (r s : ItemReader) → Fine r → All WrittenPhrase ps → run ps r ≡ Some s → Fine s
 run_fine [] r s f w e = same_reader r s e f
 run_fine (p ∷ ps) r s f w e =
     option_and_then_some (run ps) (step r p) s e (λ x one rest.
-    run_fine ps x s (step_fine r x p f (All-head WrittenPiece p ps w) one) (All-tail WrittenPiece p ps w) rest)
+    run_fine ps x s (step_fine r x p f (All-head WrittenPhrase p ps w) one) (All-tail WrittenPhrase p ps w) rest)
 
 ended_fine : (r : ItemReader) (calls : List Call) (items : List Item) → Fine r → r.calls ≡ calls → ended_at calls r ≡ Some items → All WrittenItem items
-ended_fine r [] items f a e = flushed_fine r.items items r.left r.last r.count (none_open r.calls r.count a f.filled) f.written f.side f.low e
+ended_fine r [] items f a e = flushed_fine r.items items r.left r.last r.count (none_open r.calls r.count a f.filled) f.written f.side f.low (flushed_items r (flushed r.items r.left r.last) items e)
 ended_fine r (c ∷ calls) items f a e = absurd (cc)
 
 start_fine : Fine start
@@ -280,6 +280,6 @@ start_fine = record { written = All-nil WrittenItem; side = tt; filled = refl; f
 -- all items that are read are written
 pub written_items : (ls : List Lexeme) (is : List Item) → items_from ls ≡ Some is → All WrittenItem is
 written_items ls is e =
-    option_and_then_some items_of (binding.pieces_of ls) is e (λ ps first second.
+    option_and_then_some items_of (binding.phrases_of ls) is e (λ ps first second.
     option_and_then_some ended (run ps start) is second (λ r all end.
-    ended_fine r r.calls is (run_fine ps start r start_fine (written_pieces ls ps first) all) refl end))
+    ended_fine r r.calls is (run_fine ps start r start_fine (written_phrases ls ps first) all) refl end))

@@ -17,10 +17,10 @@ mod OutExact
 pub mod TermShapes
 mod ItemTexts
 mod Commas
-mod PieceSound
+mod PhraseSound
 mod ItemSound
 mod TermRuns
-mod PieceRuns
+mod PhraseRuns
 mod ItemRuns
 mod ItemComplete
 mod ItemExact

@@ -5,7 +5,7 @@ use Rattle.syn_form.specs.declared.syntax.Mark.{Mark}
 use Rattle.syn_form.specs.declared.syntax.Mark.TheVariants as mark
 use Rattle.syn_term.specs.Tokens.{Word}
 use Rattle.syn_form.specs.Grammar.{mark_word}
-use Rattle.syn_parse.specs.Lexemes.{NoMark}
+use Rattle.syn_parse.specs.inner.Spelling.{NoMark}
 
 abbrev pub table : List Mark
 table =

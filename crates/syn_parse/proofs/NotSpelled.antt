@@ -8,7 +8,7 @@ use Rattle.syn_term.proofs.BeginsCases.{gap_token, over_token, bad_token, over_g
 use Rattle.syn_term.proofs.TokenLaws.{is_token}
 use Rattle.syn_lex.specs.declared.token.Token.{Token}
 use Rattle.syn_lex.specs.Lexing.{Blank, Spans, Lexed, Stuck}
-use Rattle.syn_parse.specs.Lexemes.{IsInside}
+use Rattle.syn_parse.specs.inner.Spelling.{IsInside}
 
 gap_on : (rest : List ℕ) (ws : List Word) → Spelled rest ws → starts rest ≡ gap → Spelled (drop 1 rest) ws
 gap_on _ _ (none_left rest e) g = absurd (over_gap (sym e ∙ g))

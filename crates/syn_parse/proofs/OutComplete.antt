@@ -19,10 +19,10 @@ use Rattle.syn_parse.specs.declared.form_reader.FormReader.{FormReader}
 use Rattle.syn_parse.specs.declared.out_reader.TallOut.{TallOut}
 use Rattle.syn_parse.specs.declared.out_reader.Arm.{Arm}
 use Rattle.syn_parse.specs.declared.out_reader.Arm.TheVariants as arm
-use Rattle.syn_parse.specs.Items.{items_of_form, items_of_out}
+use Rattle.syn_parse.specs.inner.Items.{items_of_form, items_of_out}
 use Rattle.syn_parse.specs.Heights.{height_of, out_height, out_height_step, max_height}
-use Rattle.syn_parse.specs.FormMachine as tests
-use Rattle.syn_parse.specs.OutMachine.{built, choice_of, wanted, testing, came, step, run, start, ended, parsed}
+use Rattle.syn_parse.specs.inner.FormMachine as tests
+use Rattle.syn_parse.specs.inner.OutMachine.{built, choice_of, wanted, testing, came, step, run, start, ended, parsed}
 use Rattle.syn_parse.proofs.FormLevels.{tall, cond_at}
 use Rattle.syn_parse.proofs.FormComplete.{after, after-finished, run-form}
 

@@ -3,9 +3,9 @@ use Rattle.std.proofs.Common.{◌≡◌, ◌≤◌, List, Option, None, Some, Ma
 use Rattle.syn_form.specs.declared.syntax.OutSyntax.{OutSyntax}
 use Rattle.syn_form.specs.Grammar.{OutText, syntax_of_out}
 use Rattle.syn_parse.specs.declared.items.Item.{Item}
-use Rattle.syn_parse.specs.Items.{items_of_out}
+use Rattle.syn_parse.specs.inner.Items.{items_of_out}
 use Rattle.syn_parse.specs.Heights.{out_height}
-use Rattle.syn_parse.specs.OutMachine.{parsed}
+use Rattle.syn_parse.specs.inner.OutMachine.{parsed}
 use Rattle.syn_parse.proofs.OutComplete.{complete}
 use Rattle.syn_parse.proofs.OutSound.{sound}
 

@@ -17,10 +17,10 @@ use Rattle.syn_parse.specs.declared.out_reader.TallOut.{TallOut}
 use Rattle.syn_parse.specs.declared.out_reader.Arm.{Arm}
 use Rattle.syn_parse.specs.declared.out_reader.Arm.TheVariants as arm
 use Rattle.syn_parse.specs.declared.out_reader.OutReader.{OutReader}
-use Rattle.syn_parse.specs.Items.{items_of_form, items_of_out}
+use Rattle.syn_parse.specs.inner.Items.{items_of_form, items_of_out}
 use Rattle.syn_parse.specs.Heights.{height_of, out_height, max_height}
-use Rattle.syn_parse.specs.FormMachine as tests
-use Rattle.syn_parse.specs.OutMachine.{built, choice_of, given, wanted, testing, here, came, mark_first, test_mark, test_next, then_next, else_next, mark_after, step, run, start, ended, parsed}
+use Rattle.syn_parse.specs.inner.FormMachine as tests
+use Rattle.syn_parse.specs.inner.OutMachine.{built, choice_of, given, wanted, testing, here, came, mark_first, test_mark, test_next, then_next, else_next, mark_after, step, run, start, ended, parsed}
 use Rattle.syn_parse.proofs.FormLevels.{tall, cond_at}
 use Rattle.syn_parse.proofs.FormSteps as forms
 use Rattle.syn_parse.proofs.FormSound as form_sound

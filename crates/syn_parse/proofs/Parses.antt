@@ -11,12 +11,12 @@ use Rattle.syn_form.specs.Grammar.{words_of_term, words_of_form, words_of_out, s
 use Rattle.syn_parse.specs.declared.items.Item.{Item}
 use Rattle.syn_parse.specs.declared.items.Item.TheVariants as item
 use Rattle.syn_parse.specs.Heights.{height_of, out_height}
-use Rattle.syn_parse.specs.Items.{items_of_form, items_of_out, words_of_items}
-use Rattle.syn_parse.specs.FormMachine as forms
-use Rattle.syn_parse.specs.OutMachine as outs
+use Rattle.syn_parse.specs.inner.Items.{items_of_form, items_of_out, words_of_items}
+use Rattle.syn_parse.specs.inner.FormMachine as forms
+use Rattle.syn_parse.specs.inner.OutMachine as outs
 use Rattle.syn_parse.specs.Lexemes.{IsCanonical, IsWritten}
 use Rattle.syn_parse.specs.Parsing.{IsFormSyntaxOf, IsOutSyntaxOf, IsTermSyntaxOf, OneSyntax, Parses}
-use Rattle.syn_parse.specs.Passes.{Gives, form_from, items_from, one_term, out_from, term_from}
+use Rattle.syn_parse.specs.inner.Passes.{Gives, form_from, items_from, one_term, out_from, term_from}
 use Rattle.syn_parse.proofs.FormComplete as form_complete
 use Rattle.syn_parse.proofs.FormSound as form_sound
 use Rattle.syn_parse.proofs.ItemComplete.{complete_form, complete_out, complete_term}

@@ -8,7 +8,7 @@ use Rattle.syn_form.specs.declared.syntax.TermSyntax.TheViews as term_view
 use Rattle.syn_form.specs.Grammar.{UnaryText, ConjText, DisjText, ImpText, FormText, OutText, truth, falsity, atom, equality, no, bracket, one_unary, and_also, one_conj, or_also, one_disj, implies, one_imp, both_ways, quantified, give, choice}
 use Rattle.syn_parse.specs.declared.items.Item.{Item}
 use Rattle.syn_parse.specs.declared.items.Item.TheVariants as item
-use Rattle.syn_parse.specs.Items.{items_of_unary, items_of_conj, items_of_disj, items_of_imp, items_of_form, items_of_out}
+use Rattle.syn_parse.specs.inner.Items.{items_of_unary, items_of_conj, items_of_disj, items_of_imp, items_of_form, items_of_out}
 use Rattle.syn_parse.specs.Written.{WrittenUnary, WrittenConj, WrittenDisj, WrittenImp, WrittenForm, WrittenOut}
 use Rattle.syn_parse.proofs.ItemsWritten.{WrittenItem}
 

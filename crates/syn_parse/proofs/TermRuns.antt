@@ -12,29 +12,29 @@ use Rattle.syn_form.specs.declared.syntax.TermSyntax.{TermSyntax}
 use Rattle.syn_form.specs.declared.syntax.TermSyntax.TheVariants as term
 use Rattle.syn_form.specs.declared.syntax.TermSyntax.TheViews as view
 use Rattle.syn_form.specs.Grammar.{fixed, head_lexeme, with_commas, words_of_term}
-use Rattle.syn_parse.specs.declared.binding.Piece.{Piece}
-use Rattle.syn_parse.specs.declared.binding.Piece.TheVariants as piece
+use Rattle.syn_parse.specs.declared.phrase_reader.Phrase.{Phrase}
+use Rattle.syn_parse.specs.declared.phrase_reader.Phrase.TheVariants as phrase
 use Rattle.syn_parse.specs.declared.items.Item.{Item}
 use Rattle.syn_parse.specs.declared.item_reader.Call.{Call}
 use Rattle.syn_parse.specs.declared.item_reader.ItemReader.{ItemReader}
-use Rattle.syn_parse.specs.ItemMachine.{reads, head_of, head_layer, call_of, opened, mark_next, step, run}
+use Rattle.syn_parse.specs.inner.ItemMachine.{reads, head_of, head_layer, call_of, opened, mark_next, step, run}
 use Rattle.syn_parse.specs.Written.{term_height, has_args, some_all}
 use Rattle.syn_parse.proofs.TermShapes.{words-Number, words-RowVar, words-Alone, words-Applied, height-Applied, has_args-Applied, out-Alone, Each, by_terms, some_height}
 
--- words as pieces
-abbrev pub as_words : List Lexeme → List Piece
-as_words = map (λ l. piece.Word l)
+-- words as phrases
+abbrev pub as_words : List Lexeme → List Phrase
+as_words = map (λ l. phrase.Word l)
 
-both_runs : (xs ys : List Piece) → ((s : ItemReader) → run (xs ++ ys) s ≡ option_and_then (run ys) (run xs s)) → (o : Option ItemReader) → option_and_then (run (xs ++ ys)) o ≡ option_and_then (run ys) (option_and_then (run xs) o)
+both_runs : (xs ys : List Phrase) → ((s : ItemReader) → run (xs ++ ys) s ≡ option_and_then (run ys) (run xs s)) → (o : Option ItemReader) → option_and_then (run (xs ++ ys)) o ≡ option_and_then (run ys) (option_and_then (run xs) o)
 both_runs xs ys h None = refl
 both_runs xs ys h (Some s) = h s
 
--- pieces after pieces
-pub run-append : (xs ys : List Piece) (r : ItemReader) → run (xs ++ ys) r ≡ option_and_then (run ys) (run xs r)
+-- phrases after phrases
+pub run-append : (xs ys : List Phrase) (r : ItemReader) → run (xs ++ ys) r ≡ option_and_then (run ys) (run xs r)
 run-append [] ys r = refl
 run-append (x ∷ xs) ys r = both_runs xs ys (λ s. run-append xs ys s) (step r x)
 
-pub then_runs : (xs ys : List Piece) (r s : ItemReader) → run xs r ≡ Some s → run (xs ++ ys) r ≡ run ys s
+pub then_runs : (xs ys : List Phrase) (r s : ItemReader) → run xs r ≡ Some s → run (xs ++ ys) r ≡ run ys s
 then_runs xs ys r s e = run-append xs ys r ∙ ap (option_and_then (run ys)) e
 
 -- the reader on words
@@ -42,20 +42,20 @@ abbrev pub spelled : List Lexeme → ItemReader → Option ItemReader
 spelled ls r = run (as_words ls) r
 
 pub then_spelled : (xs ys : List Lexeme) (r s : ItemReader) → spelled xs r ≡ Some s → spelled (xs ++ ys) r ≡ spelled ys s
-then_spelled xs ys r s e = ap (λ (z : List Piece). run z r) (map-append (λ l. piece.Word l) xs ys) ∙ then_runs (as_words xs) (as_words ys) r s e
+then_spelled xs ys r s e = ap (λ (z : List Phrase). run z r) (map-append (λ l. phrase.Word l) xs ys) ∙ then_runs (as_words xs) (as_words ys) r s e
 
 -- the term is read where one is wanted
 abbrev pub Runs : TermSyntax → Type 0
 Runs t = (items : List Item) (left : Option TermSyntax) (calls : List Call) (n : ℕ) → has_args t ≡ true → n + term_height t ≤ 1264 → spelled (words_of_term t) (reads items left calls n None) ≡ Some (reads items left calls n (Some t))
 
-runs_word : (t : TermSyntax) (l : Lexeme) → words_of_term t ≡ l ∷ [] → ((items : List Item) (left : Option TermSyntax) (calls : List Call) (n : ℕ) → step (reads items left calls n None) (piece.Word l) ≡ Some (reads items left calls n (Some t))) → Runs t
+runs_word : (t : TermSyntax) (l : Lexeme) → words_of_term t ≡ l ∷ [] → ((items : List Item) (left : Option TermSyntax) (calls : List Call) (n : ℕ) → step (reads items left calls n None) (phrase.Word l) ≡ Some (reads items left calls n (Some t))) → Runs t
 runs_word t l words h items left calls n _ _ = ap (λ (z : List Lexeme). spelled z (reads items left calls n None)) words ∙ ap (option_and_then (run [])) (h items left calls n)
 
-head_word : (h : HeadName) (items : List Item) (left : Option TermSyntax) (calls : List Call) (n : ℕ) → step (reads items left calls n None) (piece.Word (head_lexeme h)) ≡ Some (reads items left calls n (Some (term.Alone h)))
+head_word : (h : HeadName) (items : List Item) (left : Option TermSyntax) (calls : List Call) (n : ℕ) → step (reads items left calls n None) (phrase.Word (head_lexeme h)) ≡ Some (reads items left calls n (Some (term.Alone h)))
 head_word (head.Name x) items left calls n = refl
 head_word (head.Skolem x) items left calls n = refl
 
-open_next : (items : List Item) (left : Option TermSyntax) (calls : List Call) (n : ℕ) (t : TermSyntax) → mark_next (reads items left calls n (Some t)) mark.Open ≡ opened items left calls n t
+open_next : (items : List Item) (left : Option TermSyntax) (calls : List Call) (n : ℕ) (t : TermSyntax) → mark_next (reads items left calls n (Some t)) mark.Open ≡ opened (reads items left calls n None) t
 open_next items left [] n t = refl
 open_next items left (c ∷ calls) n t = refl
 

@@ -9,7 +9,8 @@ use Rattle.syn_form.specs.declared.syntax.Mark.TheVariants as mark
 use Rattle.syn_form.specs.declared.syntax.Lexeme.{Lexeme}
 use Rattle.syn_form.specs.declared.syntax.Lexeme.TheVariants as lexeme
 use Rattle.syn_form.specs.Grammar.{spelling}
-use Rattle.syn_parse.specs.Lexemes.{IsCanonical, NoLexeme, Spell, Spells}
+use Rattle.syn_parse.specs.Lexemes.{IsCanonical}
+use Rattle.syn_parse.specs.inner.Spelling.{NoLexeme, Spell, Spells}
 
 -- what an answer says
 pub answer_none : (w : Word) (o : Option Lexeme) → o ≡ None → MatchOption o (NoLexeme w) (Spells w) → NoLexeme w

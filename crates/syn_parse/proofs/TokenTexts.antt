@@ -16,7 +16,7 @@ use Rattle.syn_term.proofs.ReservedWords.{reserved_word}
 use Rattle.syn_form.specs.declared.syntax.Lexeme.{Lexeme}
 use Rattle.syn_form.specs.declared.syntax.Lexeme.TheVariants as lexeme
 use Rattle.syn_form.specs.Grammar.{name_word}
-use Rattle.syn_parse.specs.Lexemes.{NoLexeme, NoMark, NoNumber, Spells, row_word, word}
+use Rattle.syn_parse.specs.inner.Spelling.{NoLexeme, NoMark, NoNumber, Spells, row_word, word}
 
 -- numbers
 

@@ -1,4 +1,4 @@
--- How high syntax trees are, and how high one may be that is read.
+-- Public. How high syntax trees are, and how high one may be that is read.
 use Rattle.std.specs.Prelude.{ℕ, ◌+◌, ◌≤◌, max}
 use Rattle.syn_term.specs.Terms.{greatest}
 use Rattle.syn_form.specs.declared.syntax.FormSyntax.{FormSyntax, fold-FormSyntax}

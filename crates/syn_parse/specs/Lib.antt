@@ -1,10 +1,5 @@
-pub mod Items
+pub mod inner
 pub mod Heights
-pub mod FormMachine
-pub mod BindingMachine
-pub mod ItemMachine
 pub mod Lexemes
-pub mod OutMachine
 pub mod Written
-pub mod Passes
 pub mod Parsing

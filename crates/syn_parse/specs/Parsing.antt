@@ -1,4 +1,4 @@
--- Which syntax trees a text stands for, as far as texts are read: nothing in them is higher than 1,264.
+-- Public. Which syntax trees a text stands for, as far as texts are read: nothing in them is higher than 1,264.
 use Rattle.std.specs.Prelude.{◌≡◌, ℕ, ◌≤◌, List, Option, None, Some}
 use Rattle.syn_form.specs.declared.syntax.TermSyntax.{TermSyntax}
 use Rattle.syn_form.specs.declared.syntax.FormSyntax.{FormSyntax}

@@ -1,4 +1,4 @@
--- Which readings are read: their terms are not too high, and nothing is left out in them that the grammar asks for.
+-- Public. Which readings are read: their terms are not too high, and nothing is left out in them that the grammar asks for.
 use Rattle.std.specs.Prelude.{◌≡◌, ℕ, ◌+◌, ◌≤◌, Bool, true, false, if◌then◌else◌, List, [], ◌∷◌, length, codes}
 use Rattle.syn_term.specs.Terms.{greatest}
 use Rattle.syn_form.specs.declared.syntax.Lexeme.{Lexeme}
@@ -65,8 +65,3 @@ abbrev mutual
 abbrev pub WrittenOut : OutText → Type 0
 WrittenOut (give t) = Written t
 WrittenOut (choice f o p) = WrittenForm f × WrittenOut o × WrittenOut p
-
--- a name isn't spelled like the sort of numbers
-abbrev pub NotNat : Lexeme → Type 0
-NotNat (lexeme.Name x) = x ≡ codes "nat" → ⊥
-NotNat _ = Unit {0}

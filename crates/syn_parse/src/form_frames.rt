@@ -1,16 +1,16 @@
 // What a reader of formulas holds for each open bracket, and how the levels of precedence are
 // closed. Each formula is kept with its height, and one that would be too high is refused as soon
 // as it is made: so nothing deeper is ever dropped or handed on.
-ghost use Rattle.std.specs.Prelude.{◌≡◌, IfOk};
-ghost use Rattle.syn_parse.specs.FormMachine as machine;
+ghost use Rattle.std.specs.Prelude.{◌≡◌, IfOk, OnOk};
+ghost use Rattle.syn_parse.specs.inner.FormMachine as machine;
+ghost use Rattle.syn_parse.specs.inner.Leads.{Makes};
 
+use crate::limits::MAX_HEIGHT;
+use crate::stack::boxes;
+use crate::stop::Stop;
 use sqlite_items::{Boxed, Items};
-use std::alloc::Global;
+use std::alloc::{AllocError, Global};
 use syn_form::{BinderSyntax, FormSyntax, Quantifier};
-use syn_term::NoMemory;
-
-/// The greatest height of a formula or an output that is read.
-pub(crate) const MAX_HEIGHT: u32 = 1_264;
 
 /// A formula with its height.
 #[derive(Drop)]
@@ -21,14 +21,14 @@ pub(crate) struct Tall {
 
 /// The earlier members of a chain of `and` or of `or`, with the height of the highest.
 #[derive(Drop)]
-pub(crate) struct Parts {
+pub(crate) struct Members {
     pub(crate) forms: Items<FormSyntax>,
     pub(crate) height: u32,
 }
 
-/// A quantifier with its binders.
+/// A quantifier with its binders, before a formula.
 #[derive(Drop)]
-pub(crate) struct Bound {
+pub(crate) struct Prefix {
     pub(crate) quantifier: Quantifier,
     pub(crate) binders: Items<BinderSyntax>,
 }
@@ -38,210 +38,270 @@ pub(crate) struct Bound {
 /// the number of `not`s.
 #[derive(Drop)]
 pub(crate) struct Frame {
-    pub(crate) bounds: Items<Bound>,
+    pub(crate) prefixes: Items<Prefix>,
     pub(crate) nots: u64,
-    pub(crate) ands: Parts,
-    pub(crate) ors: Parts,
+    pub(crate) ands: Members,
+    pub(crate) ors: Members,
     pub(crate) lefts: Items<Tall>,
     pub(crate) side: Option<Boxed<Tall>>,
 }
 
-/// No members.
-pub(crate) fn no_parts(alloc: Global) -> Parts
-    ensures { result ≡ machine.no_parts }
-{
-    Parts {
-        forms: Items::new(alloc),
-        height: 0,
+impl Members {
+    /// No members.
+    pub(crate) fn new(alloc: Global) -> Members
+        ensures { result ≡ machine.no_members }
+    {
+        Members {
+            forms: Items::new(alloc),
+            height: 0,
+        }
+    }
+
+    /// One member more.
+    pub(crate) fn add(&mut self, u: Tall) -> Result<(), AllocError>
+        ensures { OnOk result (self.new ≡ machine.with_member self.old u) }
+    {
+        let Tall { form, height } = u;
+        self.forms.push(form)?;
+        self.height = self.height.max(height);
+        Ok(())
     }
 }
 
-/// A frame of which nothing was read.
-pub(crate) fn fresh(alloc: Global) -> Frame
-    ensures { result ≡ machine.fresh }
-{
-    Frame {
-        bounds: Items::new(alloc),
-        nots: 0,
-        ands: no_parts(alloc),
-        ors: no_parts(alloc),
-        lefts: Items::new(alloc),
-        side: None,
+impl Frame {
+    /// A frame of which nothing was read.
+    pub(crate) fn new(alloc: Global) -> Frame
+        ensures { result ≡ machine.fresh }
+    {
+        Frame {
+            prefixes: Items::new(alloc),
+            nots: 0,
+            ands: Members::new(alloc),
+            ors: Members::new(alloc),
+            lefts: Items::new(alloc),
+            side: None,
+        }
     }
 }
 
-/// One member more.
-pub(crate) fn with_member(parts: Parts, u: Tall) -> Result<Parts, NoMemory>
-    ensures { IfOk result (λ p. p ≡ machine.with_member parts u) }
-{
-    let Parts { mut forms, height } = parts;
-    forms.push(u.form)?;
-    Ok(Parts {
-        forms,
-        height: height.max(u.height),
-    })
-}
-
-/// A formula whose highest part has the height `below`; None where it would be too high.
-fn built(form: FormSyntax, below: u32) -> Option<Tall>
-    ensures { result ≡ machine.built form below }
+/// A formula whose highest part has the height `below`, where it is not too high.
+fn built(form: FormSyntax, below: u32) -> Result<Tall, Stop>
+    ensures { Makes result (machine.built form below) }
 {
     if below < MAX_HEIGHT {
-        Some(Tall {
-            form,
-            height: below + 1,
-        })
-    } else {
-        None
+        let height = below + 1;
+        return Ok(Tall { form, height });
     }
+    drop(form);
+    Err(Stop::Misplaced)
 }
 
-fn not_of(alloc: Global, u: Tall) -> Result<Option<Tall>, NoMemory>
-    ensures { IfOk result (λ o. o ≡ machine.not_of u) }
+fn not_of(alloc: Global, u: Tall) -> Result<Tall, Stop>
+    ensures { Makes result (machine.not_of u) }
 {
-    let Tall { form, height } = u;
-    Ok(built(FormSyntax::Not(Boxed::new(alloc, form)?), height))
-}
-
-fn implies_of(alloc: Global, a: Tall, b: Tall) -> Result<Option<Tall>, NoMemory>
-    ensures { IfOk result (λ o. o ≡ machine.implies_of a b) }
-{
-    let below = a.height.max(b.height);
-    let (left, right) = (Boxed::new(alloc, a.form)?, Boxed::new(alloc, b.form)?);
-    Ok(built(FormSyntax::Implies(left, right), below))
-}
-
-fn both_of(alloc: Global, a: Tall, b: Tall) -> Result<Option<Tall>, NoMemory>
-    ensures { IfOk result (λ o. o ≡ machine.both_of a b) }
-{
-    let below = a.height.max(b.height);
-    let (left, right) = (Boxed::new(alloc, a.form)?, Boxed::new(alloc, b.form)?);
-    Ok(built(FormSyntax::BothWays(left, right), below))
-}
-
-fn quantified_of(alloc: Global, bound: Bound, u: Tall) -> Result<Option<Tall>, NoMemory>
-    ensures { IfOk result (λ o. o ≡ machine.quantified_of bound u) }
-{
-    let Bound {
-        quantifier,
-        binders,
-    } = bound;
     let Tall { form, height } = u;
     let inner = Boxed::new(alloc, form)?;
-    Ok(built(FormSyntax::Quantified(quantifier, binders, inner), height))
+    built(FormSyntax::Not(inner), height)
+}
+
+fn implies_of(alloc: Global, a: Tall, b: Tall) -> Result<Tall, Stop>
+    ensures { Makes result (machine.implies_of a b) }
+{
+    let below = a.height.max(b.height);
+    let (left, right) = boxes(alloc, a.form, b.form)?;
+    built(FormSyntax::Implies(left, right), below)
+}
+
+fn both_of(alloc: Global, a: Tall, b: Tall) -> Result<Tall, Stop>
+    ensures { Makes result (machine.both_of a b) }
+{
+    let below = a.height.max(b.height);
+    let (left, right) = boxes(alloc, a.form, b.form)?;
+    built(FormSyntax::BothWays(left, right), below)
+}
+
+fn quantified_of(alloc: Global, prefix: Prefix, u: Tall) -> Result<Tall, Stop>
+    ensures { Makes result (machine.quantified_of prefix u) }
+{
+    let Tall { form, height } = u;
+    match Boxed::new(alloc, form) {
+        Ok(inner) => {
+            let Prefix {
+                quantifier,
+                binders,
+            } = prefix;
+            built(FormSyntax::Quantified(quantifier, binders, inner), height)
+        }
+        Err(_) => {
+            drop(prefix);
+            Err(Stop::NoMemory)
+        }
+    }
 }
 
 /// The formula under so many `not`s.
 #[tactic(auto, using(crate::proofs::FormFrames::negated_next))]
-pub(crate) fn negated(alloc: Global, nots: u64, u: Tall) -> Result<Option<Tall>, NoMemory>
-    ensures { IfOk result (λ o. o ≡ machine.negated nots u) }
+pub(crate) fn negated(alloc: Global, nots: u64, u: Tall) -> Result<Tall, Stop>
+    ensures { Makes result (machine.negated nots u) }
 {
     let mut last = u;
     for _ in 0..nots {
-        match not_of(alloc, last)? {
-            None => return Ok(None),
-            Some(next) => last = next,
-        }
+        last = not_of(alloc, last)?;
     }
-    Ok(Some(last))
+    Ok(last)
 }
 
 /// The chain of `and` with its last member; a formula alone is no chain.
-pub(crate) fn chain_and(ands: Parts, u: Tall) -> Result<Option<Tall>, NoMemory>
-    ensures { IfOk result (λ o. o ≡ machine.chain_and ands u) }
+pub(crate) fn chain_and(ands: Members, u: Tall) -> Result<Tall, Stop>
+    ensures { Makes result (machine.chain_and ands u) }
 {
     if ands.forms.is_empty() {
-        return Ok(Some(u));
+        drop(ands);
+        return Ok(u);
     }
-    let Parts { forms, height } = with_member(ands, u)?;
-    Ok(built(FormSyntax::And(forms), height))
+    let Members { forms, height } = with_member(ands, u)?;
+    built(FormSyntax::And(forms), height)
 }
 
 /// The chain of `or` with its last member; a formula alone is no chain.
-fn chain_or(ors: Parts, u: Tall) -> Result<Option<Tall>, NoMemory>
-    ensures { IfOk result (λ o. o ≡ machine.chain_or ors u) }
+fn chain_or(ors: Members, u: Tall) -> Result<Tall, Stop>
+    ensures { Makes result (machine.chain_or ors u) }
 {
     if ors.forms.is_empty() {
-        return Ok(Some(u));
+        drop(ors);
+        return Ok(u);
     }
-    let Parts { forms, height } = with_member(ors, u)?;
-    Ok(built(FormSyntax::Or(forms), height))
+    let Members { forms, height } = with_member(ors, u)?;
+    built(FormSyntax::Or(forms), height)
+}
+
+fn with_member(members: Members, u: Tall) -> Result<Members, AllocError>
+    ensures { IfOk result (λ m. m ≡ machine.with_member members u) }
+{
+    let mut members = members;
+    match members.add(u) {
+        Ok(()) => Ok(members),
+        Err(error) => {
+            drop(members);
+            Err(error)
+        }
+    }
 }
 
 /// The chain of `->` with its last side, nested to the right.
 #[tactic(auto, using(crate::proofs::FormFrames::chain_imp_last))]
-fn chain_imp(alloc: Global, lefts: Items<Tall>, u: Tall) -> Result<Option<Tall>, NoMemory>
-    ensures { IfOk result (λ o. o ≡ machine.chain_imp lefts u) }
+fn chain_imp(alloc: Global, lefts: Items<Tall>, u: Tall) -> Result<Tall, Stop>
+    ensures { Makes result (machine.chain_imp lefts u) }
 {
     let (mut lefts, mut last) = (lefts, u);
     while let Some(left) = lefts.pop() {
-        match implies_of(alloc, left, last)? {
-            None => return Ok(None),
-            Some(next) => last = next,
+        match implies_of(alloc, left, last) {
+            Ok(next) => last = next,
+            Err(stop) => {
+                drop(lefts);
+                return Err(stop);
+            }
         }
     }
-    Ok(Some(last))
+    Ok(last)
 }
 
-fn sided(alloc: Global, side: Option<Boxed<Tall>>, u: Tall) -> Result<Option<Tall>, NoMemory>
-    ensures { IfOk result (λ o. o ≡ machine.sided side u) }
+fn sided(alloc: Global, side: Option<Boxed<Tall>>, u: Tall) -> Result<Tall, Stop>
+    ensures { Makes result (machine.sided side u) }
 {
     match side {
-        None => Ok(Some(u)),
+        None => Ok(u),
         Some(left) => both_of(alloc, left.into_inner(), u),
     }
 }
 
 /// The formula under the quantifiers, the first of them outermost.
 #[tactic(auto, using(crate::proofs::FormFrames::under_last))]
-fn under(alloc: Global, bounds: Items<Bound>, u: Tall) -> Result<Option<Tall>, NoMemory>
-    ensures { IfOk result (λ o. o ≡ machine.under bounds u) }
+fn under(alloc: Global, prefixes: Items<Prefix>, u: Tall) -> Result<Tall, Stop>
+    ensures { Makes result (machine.under prefixes u) }
 {
-    let (mut bounds, mut last) = (bounds, u);
-    while let Some(inner) = bounds.pop() {
-        match quantified_of(alloc, inner, last)? {
-            None => return Ok(None),
-            Some(next) => last = next,
+    let (mut prefixes, mut last) = (prefixes, u);
+    while let Some(inner) = prefixes.pop() {
+        match quantified_of(alloc, inner, last) {
+            Ok(next) => last = next,
+            Err(stop) => {
+                drop(prefixes);
+                return Err(stop);
+            }
         }
     }
-    Ok(Some(last))
+    Ok(last)
 }
 
 /// The open chains of `and` and of `or` with their last member.
-pub(crate) fn or_done(ands: Parts, ors: Parts, u: Tall) -> Result<Option<Tall>, NoMemory>
-    ensures { IfOk result (λ o. o ≡ machine.or_done ands ors u) }
+pub(crate) fn or_done(ands: Members, ors: Members, u: Tall) -> Result<Tall, Stop>
+    ensures { Makes result (machine.or_done ands ors u) }
 {
-    match chain_and(ands, u)? {
-        None => Ok(None),
-        Some(v) => chain_or(ors, v),
+    match chain_and(ands, u) {
+        Ok(v) => chain_or(ors, v),
+        other => {
+            drop(ors);
+            other
+        }
     }
 }
 
 /// The same with the left sides of `->`.
 pub(crate) fn imp_done(
     alloc: Global,
-    ands: Parts,
-    ors: Parts,
+    ands: Members,
+    ors: Members,
     lefts: Items<Tall>,
     u: Tall,
-) -> Result<Option<Tall>, NoMemory>
-    ensures { IfOk result (λ o. o ≡ machine.imp_done ands ors lefts u) }
+) -> Result<Tall, Stop>
+    ensures { Makes result (machine.imp_done ands ors lefts u) }
 {
-    match or_done(ands, ors, u)? {
-        None => Ok(None),
-        Some(v) => chain_imp(alloc, lefts, v),
+    match or_done(ands, ors, u) {
+        Ok(v) => chain_imp(alloc, lefts, v),
+        other => {
+            drop(lefts);
+            other
+        }
+    }
+}
+
+/// The same with what stands before `<->`.
+fn sides_done(
+    alloc: Global,
+    ands: Members,
+    ors: Members,
+    lefts: Items<Tall>,
+    side: Option<Boxed<Tall>>,
+    u: Tall,
+) -> Result<Tall, Stop>
+    ensures { Makes result (machine.sides_done ands ors lefts side u) }
+{
+    match imp_done(alloc, ands, ors, lefts, u) {
+        Ok(v) => sided(alloc, side, v),
+        other => {
+            drop(side);
+            other
+        }
     }
 }
 
 /// The whole form of a frame, whose last operand is `u`.
-pub(crate) fn form_done(alloc: Global, frame: Frame, u: Tall) -> Result<Option<Tall>, NoMemory>
-    ensures { IfOk result (λ o. o ≡ machine.form_done frame u) }
+pub(crate) fn form_done(alloc: Global, frame: Frame, u: Tall) -> Result<Tall, Stop>
+    ensures { Makes result (machine.form_done frame u) }
 {
-    match imp_done(alloc, frame.ands, frame.ors, frame.lefts, u)? {
-        None => Ok(None),
-        Some(v) => match sided(alloc, frame.side, v)? {
-            None => Ok(None),
-            Some(w) => under(alloc, frame.bounds, w),
-        },
+    let Frame {
+        prefixes,
+        nots: _,
+        ands,
+        ors,
+        lefts,
+        side,
+    } = frame;
+    match sides_done(alloc, ands, ors, lefts, side, u) {
+        Ok(v) => under(alloc, prefixes, v),
+        other => {
+            drop(prefixes);
+            other
+        }
     }
 }

@@ -1,17 +1,18 @@
 // A formula is read from its items by a machine over frames, one for each open bracket.
-ghost use Rattle.std.specs.Prelude.{◌≡◌, IfOk};
-ghost use Rattle.syn_parse.specs.FormMachine as machine;
+ghost use Rattle.std.specs.Prelude.{◌≡◌};
+ghost use Rattle.syn_parse.specs.inner.FormMachine as machine;
+ghost use Rattle.syn_parse.specs.inner.Leads.{Leads, Makes};
 
 use crate::form_frames::{
-    Bound, Frame, Tall, chain_and, form_done, fresh, imp_done, negated, no_parts, or_done,
-    with_member,
+    Frame, Members, Prefix, Tall, chain_and, form_done, imp_done, negated, or_done,
 };
 use crate::items::Item;
 use crate::stack::{Stack, stacked};
+use crate::stop::Stop;
 use sqlite_items::{Boxed, Items};
 use std::alloc::Global;
+use std::mem;
 use syn_form::{BinderSyntax, FormSyntax, HeadName, Mark, Quantifier, TermSyntax};
-use syn_term::NoMemory;
 
 /// What was read so far: the frame of the innermost open bracket, those around it, and the last
 /// operand where one is there. `first` says that no operand nor `not` of the innermost form was
@@ -24,46 +25,6 @@ pub(crate) struct FormReader {
     last: Option<Tall>,
 }
 
-/// A reader that has read nothing.
-pub(crate) fn start(alloc: Global) -> FormReader
-    ensures { result ≡ machine.start }
-{
-    wants(true, fresh(alloc), Stack::new(alloc))
-}
-
-fn wants(first: bool, frame: Frame, outer: Stack<Frame>) -> FormReader
-    ensures { result ≡ machine.wants first frame outer }
-{
-    FormReader {
-        frame,
-        outer,
-        first,
-        last: None,
-    }
-}
-
-/// An operand comes: the pending `not`s are put round it.
-fn got(
-    alloc: Global,
-    frame: Frame,
-    outer: Stack<Frame>,
-    u: Tall,
-) -> Result<Option<FormReader>, NoMemory>
-    ensures { IfOk result (λ o. o ≡ machine.got frame outer u) }
-{
-    let nots = frame.nots;
-    let frame = Frame { nots: 0, ..frame };
-    match negated(alloc, nots, u)? {
-        None => Ok(None),
-        Some(v) => Ok(Some(FormReader {
-            frame,
-            outer,
-            first: false,
-            last: Some(v),
-        })),
-    }
-}
-
 fn leaf(form: FormSyntax) -> Tall
     ensures { result ≡ machine.leaf form }
 {
@@ -71,311 +32,290 @@ fn leaf(form: FormSyntax) -> Tall
 }
 
 /// The atom that a term is where a formula is wanted.
-fn atom_of(t: TermSyntax) -> Option<FormSyntax>
-    ensures { result ≡ machine.atom_of t }
+fn atom_of(t: TermSyntax) -> Result<FormSyntax, Stop>
+    ensures { Makes result (machine.atom_of t) }
 {
     match t {
         TermSyntax::Applied(head, args) => match head {
-            HeadName::Name(r) => Some(FormSyntax::Atom(r, args)),
-            HeadName::Skolem(_) => None,
+            HeadName::Name(r) => Ok(FormSyntax::Atom(r, args)),
+            HeadName::Skolem(x) => {
+                drop(x);
+                drop(args);
+                Err(Stop::Misplaced)
+            }
         },
-        _ => None,
-    }
-}
-
-fn term_next(
-    alloc: Global,
-    frame: Frame,
-    outer: Stack<Frame>,
-    t: TermSyntax,
-) -> Result<Option<FormReader>, NoMemory>
-    ensures { IfOk result (λ o. o ≡ machine.term_next frame outer t) }
-{
-    match atom_of(t) {
-        None => Ok(None),
-        Some(atom) => got(alloc, frame, outer, leaf(atom)),
-    }
-}
-
-fn quantifier_next(
-    first: bool,
-    frame: Frame,
-    outer: Stack<Frame>,
-    quantifier: Quantifier,
-    binders: Items<BinderSyntax>,
-) -> Result<Option<FormReader>, NoMemory>
-    ensures { IfOk result (λ o. o ≡ machine.quantifier_next first frame outer quantifier binders) }
-{
-    if !first {
-        return Ok(None);
-    }
-    let mut frame = frame;
-    frame.bounds.push(Bound {
-        quantifier,
-        binders,
-    })?;
-    Ok(Some(wants(true, frame, outer)))
-}
-
-/// One `not` more. A number of them that no counter holds is told as want of memory.
-fn not_next(frame: Frame, outer: Stack<Frame>) -> Result<FormReader, NoMemory>
-    ensures { IfOk result (λ r. r ≡ machine.not_next frame outer) }
-{
-    let Some(nots) = frame.nots.checked_add(1) else {
-        return Err(NoMemory);
-    };
-    Ok(wants(false, Frame { nots, ..frame }, outer))
-}
-
-fn open_next(alloc: Global, frame: Frame, outer: Stack<Frame>) -> Result<FormReader, NoMemory>
-    ensures { IfOk result (λ r. r ≡ machine.open_next frame outer) }
-{
-    let mut outer = outer;
-    outer.push(frame)?;
-    Ok(wants(true, fresh(alloc), outer))
-}
-
-/// A mark where an operand is wanted.
-fn mark_first(
-    alloc: Global,
-    frame: Frame,
-    outer: Stack<Frame>,
-    mark: Mark,
-) -> Result<Option<FormReader>, NoMemory>
-    ensures { IfOk result (λ o. o ≡ machine.mark_first frame outer mark) }
-{
-    match mark {
-        Mark::True => got(alloc, frame, outer, leaf(FormSyntax::True)),
-        Mark::False => got(alloc, frame, outer, leaf(FormSyntax::False)),
-        Mark::Not => Ok(Some(not_next(frame, outer)?)),
-        Mark::Open => Ok(Some(open_next(alloc, frame, outer)?)),
-        _ => Ok(None),
-    }
-}
-
-/// The next item where an operand is wanted.
-fn begun(
-    alloc: Global,
-    first: bool,
-    frame: Frame,
-    outer: Stack<Frame>,
-    item: Item,
-) -> Result<Option<FormReader>, NoMemory>
-    ensures { IfOk result (λ o. o ≡ machine.begun first frame outer item) }
-{
-    match item {
-        Item::Term(t) => term_next(alloc, frame, outer, t),
-        Item::Equal(s, t) => got(alloc, frame, outer, leaf(FormSyntax::Equal(s, t))),
-        Item::Quantifier(q, binders) => quantifier_next(first, frame, outer, q, binders),
-        Item::Fixed(mark) => mark_first(alloc, frame, outer, mark),
-    }
-}
-
-fn and_next(frame: Frame, outer: Stack<Frame>, u: Tall) -> Result<FormReader, NoMemory>
-    ensures { IfOk result (λ r. r ≡ machine.and_next frame outer u) }
-{
-    let ands = with_member(frame.ands, u)?;
-    let frame = Frame {
-        nots: 0,
-        ands,
-        ..frame
-    };
-    Ok(wants(false, frame, outer))
-}
-
-fn or_next(
-    alloc: Global,
-    frame: Frame,
-    outer: Stack<Frame>,
-    u: Tall,
-) -> Result<Option<FormReader>, NoMemory>
-    ensures { IfOk result (λ o. o ≡ machine.or_next frame outer u) }
-{
-    let Some(v) = chain_and(frame.ands, u)? else {
-        return Ok(None);
-    };
-    let ors = with_member(frame.ors, v)?;
-    let frame = Frame {
-        nots: 0,
-        ands: no_parts(alloc),
-        ors,
-        ..frame
-    };
-    Ok(Some(wants(false, frame, outer)))
-}
-
-fn arrow_next(
-    alloc: Global,
-    frame: Frame,
-    outer: Stack<Frame>,
-    u: Tall,
-) -> Result<Option<FormReader>, NoMemory>
-    ensures { IfOk result (λ o. o ≡ machine.arrow_next frame outer u) }
-{
-    let Some(v) = or_done(frame.ands, frame.ors, u)? else {
-        return Ok(None);
-    };
-    let mut lefts = frame.lefts;
-    lefts.push(v)?;
-    let frame = Frame {
-        bounds: frame.bounds,
-        lefts,
-        side: frame.side,
-        ..fresh(alloc)
-    };
-    Ok(Some(wants(false, frame, outer)))
-}
-
-/// `<->` stands at most once in a form.
-fn both_next(
-    alloc: Global,
-    frame: Frame,
-    outer: Stack<Frame>,
-    u: Tall,
-) -> Result<Option<FormReader>, NoMemory>
-    ensures { IfOk result (λ o. o ≡ machine.both_next frame outer u) }
-{
-    if frame.side.is_some() {
-        return Ok(None);
-    }
-    let Some(v) = imp_done(alloc, frame.ands, frame.ors, frame.lefts, u)? else {
-        return Ok(None);
-    };
-    let side = Some(Boxed::new(alloc, v)?);
-    let frame = Frame {
-        bounds: frame.bounds,
-        side,
-        ..fresh(alloc)
-    };
-    Ok(Some(wants(false, frame, outer)))
-}
-
-/// A bracket closes the form of its frame, which is an operand of the frame around it.
-fn close_next(
-    alloc: Global,
-    frame: Frame,
-    outer: Stack<Frame>,
-    u: Tall,
-) -> Result<Option<FormReader>, NoMemory>
-    ensures { IfOk result (λ o. o ≡ machine.close_next frame outer u) }
-{
-    let mut outer = outer;
-    let Some(around) = outer.pop() else {
-        return Ok(None);
-    };
-    match form_done(alloc, frame, u)? {
-        None => Ok(None),
-        Some(v) => got(alloc, around, outer, v),
-    }
-}
-
-/// A mark after the operand `u`.
-fn mark_after(
-    alloc: Global,
-    frame: Frame,
-    outer: Stack<Frame>,
-    u: Tall,
-    mark: Mark,
-) -> Result<Option<FormReader>, NoMemory>
-    ensures { IfOk result (λ o. o ≡ machine.mark_after frame outer u mark) }
-{
-    match mark {
-        Mark::And => Ok(Some(and_next(frame, outer, u)?)),
-        Mark::Or => or_next(alloc, frame, outer, u),
-        Mark::Arrow => arrow_next(alloc, frame, outer, u),
-        Mark::BothWays => both_next(alloc, frame, outer, u),
-        Mark::Close => close_next(alloc, frame, outer, u),
-        _ => Ok(None),
-    }
-}
-
-/// The next item after the operand `u`.
-fn went_on(
-    alloc: Global,
-    frame: Frame,
-    outer: Stack<Frame>,
-    u: Tall,
-    item: Item,
-) -> Result<Option<FormReader>, NoMemory>
-    ensures { IfOk result (λ o. o ≡ machine.went_on frame outer u item) }
-{
-    match item {
-        Item::Fixed(mark) => mark_after(alloc, frame, outer, u, mark),
-        _ => Ok(None),
-    }
-}
-
-/// The reader one item further; None where no formula goes on so.
-pub(crate) fn step(alloc: Global, r: FormReader, item: Item) -> Result<Option<FormReader>, NoMemory>
-    ensures { IfOk result (λ o. o ≡ machine.step r item) }
-{
-    let FormReader {
-        frame,
-        outer,
-        first,
-        last,
-    } = r;
-    match last {
-        None => begun(alloc, first, frame, outer, item),
-        Some(u) => went_on(alloc, frame, outer, u, item),
-    }
-}
-
-/// The formula that was read, with its height; None where a bracket is open or an operand is
-/// missing.
-pub(crate) fn finished(alloc: Global, r: FormReader) -> Result<Option<Tall>, NoMemory>
-    ensures { IfOk result (λ o. o ≡ machine.finished r) }
-{
-    let FormReader {
-        frame,
-        outer,
-        first: _,
-        last,
-    } = r;
-    let mut outer = outer;
-    let Some(u) = last else {
-        return Ok(None);
-    };
-    if outer.pop().is_some() {
-        return Ok(None);
-    }
-    form_done(alloc, frame, u)
-}
-
-/// The same without its height.
-fn ended(alloc: Global, r: FormReader) -> Result<Option<FormSyntax>, NoMemory>
-    ensures { IfOk result (λ o. o ≡ machine.ended r) }
-{
-    match finished(alloc, r)? {
-        None => Ok(None),
-        Some(v) => Ok(Some(v.form)),
-    }
-}
-
-/// The reader after all the items.
-fn run(alloc: Global, items: Items<Item>) -> Result<Option<FormReader>, NoMemory>
-    ensures { IfOk result (λ o. o ≡ machine.run items machine.start) }
-{
-    let mut rest = stacked(alloc, items)?;
-    let mut reader = start(alloc);
-    while let Some(item) = rest.pop() {
-        match step(alloc, reader, item)? {
-            None => return Ok(None),
-            Some(next) => reader = next,
+        other => {
+            drop(other);
+            Err(Stop::Misplaced)
         }
     }
-    Ok(Some(reader))
 }
 
-/// The formula that the items are; None where they are none, or one that is too high.
-pub(crate) fn form_of_items(
-    alloc: Global,
-    items: Items<Item>,
-) -> Result<Option<FormSyntax>, NoMemory>
-    ensures { IfOk result (λ o. o ≡ machine.parsed items) }
-{
-    match run(alloc, items)? {
-        None => Ok(None),
-        Some(reader) => ended(alloc, reader),
+impl FormReader {
+    /// A reader that has read nothing.
+    pub(crate) fn new(alloc: Global) -> FormReader
+        ensures { result ≡ machine.start }
+    {
+        FormReader {
+            frame: Frame::new(alloc),
+            outer: Stack::new(alloc),
+            first: true,
+            last: None,
+        }
     }
+
+    /// An operand is wanted, or, at the start of a form, also a quantifier.
+    fn want(&mut self, first: bool)
+        ensures { self.new ≡ machine.wants first self.old.frame self.old.outer }
+    {
+        self.first = first;
+        drop(self.last.take());
+    }
+
+    /// An operand comes: the pending `not`s are put round it.
+    fn got(&mut self, alloc: Global, u: Tall) -> Result<(), Stop>
+        ensures { Leads result self.new (machine.got self.old.frame self.old.outer u) }
+    {
+        let nots = mem::replace(&mut self.frame.nots, 0);
+        let v = negated(alloc, nots, u)?;
+        self.first = false;
+        drop(self.last.replace(v));
+        Ok(())
+    }
+
+    fn term_first(&mut self, alloc: Global, t: TermSyntax) -> Result<(), Stop>
+        ensures { Leads result self.new (machine.term_next self.old.frame self.old.outer t) }
+    {
+        let atom = atom_of(t)?;
+        self.got(alloc, leaf(atom))
+    }
+
+    fn quantifier_first(
+        &mut self,
+        quantifier: Quantifier,
+        binders: Items<BinderSyntax>,
+    ) -> Result<(), Stop>
+        ensures { Leads result self.new (machine.quantifier_next self.old.first self.old.frame self.old.outer quantifier binders) }
+    {
+        if !self.first {
+            drop(binders);
+            return Err(Stop::Misplaced);
+        }
+        let prefix = Prefix {
+            quantifier,
+            binders,
+        };
+        self.frame.prefixes.push(prefix)?;
+        self.want(true);
+        Ok(())
+    }
+
+    /// One `not` more. A number of them that no counter holds is told as want of memory.
+    fn not_first(&mut self) -> Result<(), Stop>
+        ensures { Leads result self.new (Some (machine.not_next self.old.frame self.old.outer)) }
+    {
+        let Some(nots) = self.frame.nots.checked_add(1) else {
+            return Err(Stop::NoMemory);
+        };
+        self.frame.nots = nots;
+        self.want(false);
+        Ok(())
+    }
+
+    /// A bracket opens: what was read of the form around it is kept for when it closes.
+    fn open(&mut self, alloc: Global) -> Result<(), Stop>
+        ensures { Leads result self.new (Some (machine.open_next self.old.frame self.old.outer)) }
+    {
+        let frame = mem::replace(&mut self.frame, Frame::new(alloc));
+        self.outer.push(frame)?;
+        self.want(true);
+        Ok(())
+    }
+
+    /// A mark where an operand is wanted.
+    fn mark_first(&mut self, alloc: Global, mark: Mark) -> Result<(), Stop>
+        ensures { Leads result self.new (machine.mark_first self.old.frame self.old.outer mark) }
+    {
+        match mark {
+            Mark::True => self.got(alloc, leaf(FormSyntax::True)),
+            Mark::False => self.got(alloc, leaf(FormSyntax::False)),
+            Mark::Not => self.not_first(),
+            Mark::Open => self.open(alloc),
+            _ => Err(Stop::Misplaced),
+        }
+    }
+
+    /// The next item where an operand is wanted.
+    fn begun(&mut self, alloc: Global, item: Item) -> Result<(), Stop>
+        ensures { Leads result self.new (machine.begun self.old.first self.old.frame self.old.outer item) }
+    {
+        match item {
+            Item::Term(t) => self.term_first(alloc, t),
+            Item::Equal(s, t) => self.got(alloc, leaf(FormSyntax::Equal(s, t))),
+            Item::Quantifier(q, binders) => self.quantifier_first(q, binders),
+            Item::Fixed(mark) => self.mark_first(alloc, mark),
+        }
+    }
+
+    fn and_next(&mut self, u: Tall) -> Result<(), Stop>
+        ensures { Leads result self.new (Some (machine.and_next self.old.frame self.old.outer u)) }
+    {
+        self.frame.ands.add(u)?;
+        self.frame.nots = 0;
+        self.want(false);
+        Ok(())
+    }
+
+    fn or_next(&mut self, alloc: Global, u: Tall) -> Result<(), Stop>
+        ensures { Leads result self.new (machine.or_next self.old.frame self.old.outer u) }
+    {
+        let ands = mem::replace(&mut self.frame.ands, Members::new(alloc));
+        let v = chain_and(ands, u)?;
+        self.frame.ors.add(v)?;
+        self.frame.nots = 0;
+        self.want(false);
+        Ok(())
+    }
+
+    fn arrow_next(&mut self, alloc: Global, u: Tall) -> Result<(), Stop>
+        ensures { Leads result self.new (machine.arrow_next self.old.frame self.old.outer u) }
+    {
+        let ands = mem::replace(&mut self.frame.ands, Members::new(alloc));
+        let ors = mem::replace(&mut self.frame.ors, Members::new(alloc));
+        let v = or_done(ands, ors, u)?;
+        self.frame.lefts.push(v)?;
+        self.frame.nots = 0;
+        self.want(false);
+        Ok(())
+    }
+
+    /// `<->` stands at most once in a form.
+    fn both_next(&mut self, alloc: Global, u: Tall) -> Result<(), Stop>
+        ensures { Leads result self.new (machine.both_next self.old.frame self.old.outer u) }
+    {
+        if self.frame.side.is_some() {
+            drop(u);
+            return Err(Stop::Misplaced);
+        }
+        let ands = mem::replace(&mut self.frame.ands, Members::new(alloc));
+        let ors = mem::replace(&mut self.frame.ors, Members::new(alloc));
+        let lefts = mem::replace(&mut self.frame.lefts, Items::new(alloc));
+        let v = imp_done(alloc, ands, ors, lefts, u)?;
+        let side = Boxed::new(alloc, v)?;
+        drop(self.frame.side.replace(side));
+        self.frame.nots = 0;
+        self.want(false);
+        Ok(())
+    }
+
+    /// A bracket closes the form of its frame, which is an operand of the frame around it.
+    fn close(&mut self, alloc: Global, u: Tall) -> Result<(), Stop>
+        ensures { Leads result self.new (machine.close_next self.old.frame self.old.outer u) }
+    {
+        match self.outer.pop() {
+            Some(around) => {
+                let frame = mem::replace(&mut self.frame, around);
+                let v = form_done(alloc, frame, u)?;
+                self.got(alloc, v)
+            }
+            None => {
+                drop(u);
+                Err(Stop::Misplaced)
+            }
+        }
+    }
+
+    /// A mark after the operand `u`.
+    fn mark_after(&mut self, alloc: Global, u: Tall, mark: Mark) -> Result<(), Stop>
+        ensures { Leads result self.new (machine.mark_after self.old.frame self.old.outer u mark) }
+    {
+        match mark {
+            Mark::And => self.and_next(u),
+            Mark::Or => self.or_next(alloc, u),
+            Mark::Arrow => self.arrow_next(alloc, u),
+            Mark::BothWays => self.both_next(alloc, u),
+            Mark::Close => self.close(alloc, u),
+            _ => {
+                drop(u);
+                Err(Stop::Misplaced)
+            }
+        }
+    }
+
+    /// The next item after the operand `u`.
+    fn went_on(&mut self, alloc: Global, u: Tall, item: Item) -> Result<(), Stop>
+        ensures { Leads result self.new (machine.went_on self.old.frame self.old.outer u item) }
+    {
+        match item {
+            Item::Fixed(mark) => self.mark_after(alloc, u, mark),
+            other => {
+                drop(u);
+                drop(other);
+                Err(Stop::Misplaced)
+            }
+        }
+    }
+
+    /// The reader one item further.
+    pub(crate) fn step(&mut self, alloc: Global, item: Item) -> Result<(), Stop>
+        ensures { Leads result self.new (machine.step self.old item) }
+    {
+        match self.last.take() {
+            None => self.begun(alloc, item),
+            Some(u) => self.went_on(alloc, u, item),
+        }
+    }
+
+    /// The formula that was read, with its height, where all brackets are closed and no operand is
+    /// missing.
+    pub(crate) fn finish(&mut self, alloc: Global) -> Result<Tall, Stop>
+        ensures { Makes result (machine.finished self.old) }
+    {
+        let Some(u) = self.last.take() else {
+            return Err(Stop::Misplaced);
+        };
+        match self.outer.pop() {
+            None => {
+                let frame = mem::replace(&mut self.frame, Frame::new(alloc));
+                form_done(alloc, frame, u)
+            }
+            Some(around) => {
+                drop(around);
+                drop(u);
+                Err(Stop::Misplaced)
+            }
+        }
+    }
+
+    /// The same without its height.
+    fn end(&mut self, alloc: Global) -> Result<FormSyntax, Stop>
+        ensures { Makes result (machine.ended self.old) }
+    {
+        let whole = self.finish(alloc)?;
+        Ok(whole.form)
+    }
+
+    fn run(&mut self, alloc: Global, items: &mut Stack<Item>) -> Result<(), Stop>
+        ensures { Leads result self.new (machine.run items.old self.old) }
+    {
+        while let Some(item) = items.pop() {
+            self.step(alloc, item)?;
+        }
+        Ok(())
+    }
+}
+
+/// The formula that the items are.
+pub(crate) fn form_of_items(alloc: Global, items: Items<Item>) -> Result<FormSyntax, Stop>
+    ensures { Makes result (machine.parsed items) }
+{
+    let mut rest = stacked(alloc, items)?;
+    let mut reader = FormReader::new(alloc);
+    let form = match reader.run(alloc, &mut rest) {
+        Ok(()) => reader.end(alloc),
+        Err(stop) => Err(stop),
+    };
+    drop(reader);
+    drop(rest);
+    form
 }

@@ -1,18 +1,19 @@
 // The second pass puts terms and equalities together. A name is a term by itself until a bracket
 // opens behind it; so the reader never looks ahead.
 ghost use Rattle.std.specs.Prelude.{◌≡◌, IfOk};
-ghost use Rattle.syn_parse.specs.ItemMachine as machine;
+ghost use Rattle.syn_form.specs.declared.syntax.Mark.TheVariants as mark;
+ghost use Rattle.syn_parse.specs.inner.ItemMachine as machine;
+ghost use Rattle.syn_parse.specs.inner.Leads.{Leads, Makes};
 
-use crate::binding::Piece;
 use crate::items::Item;
+use crate::limits::MAX_OPEN;
+use crate::phrase_reader::Phrase;
 use crate::stack::{Stack, stacked};
+use crate::stop::Stop;
 use sqlite_items::Items;
-use std::alloc::Global;
+use std::alloc::{AllocError, Global};
+use std::mem;
 use syn_form::{BinderSyntax, HeadName, Lexeme, Mark, Quantifier, TermSyntax};
-use syn_term::NoMemory;
-
-/// The greatest number of calls that are open at once, so that no term is higher than 1,264.
-const MAX_OPEN: u32 = 1_263;
 
 /// A head whose bracket is open, and its arguments before the last.
 #[derive(Drop)]
@@ -32,170 +33,30 @@ pub(crate) struct ItemReader {
     pub(crate) last: Option<TermSyntax>,
 }
 
-/// A term comes, where none is there yet.
-fn placed(reader: ItemReader, term: TermSyntax) -> Option<ItemReader>
-    ensures { result ≡ machine.placed reader term }
-{
-    match reader.last {
-        None => Some(ItemReader {
-            last: Some(term),
-            ..reader
-        }),
-        Some(_) => None,
-    }
-}
-
-/// The items with the last term, or the equality that ends with it.
-fn flushed(
-    items: Items<Item>,
-    left: Option<TermSyntax>,
-    last: Option<TermSyntax>,
-) -> Result<Option<Items<Item>>, NoMemory>
-    ensures { IfOk result (λ o. o ≡ machine.flushed items left last) }
-{
-    let mut items = items;
-    match (left, last) {
-        (None, None) => Ok(Some(items)),
-        (None, Some(t)) => {
-            items.push(Item::Term(t))?;
-            Ok(Some(items))
-        }
-        (Some(s), Some(t)) => {
-            items.push(Item::Equal(s, t))?;
-            Ok(Some(items))
-        }
-        (Some(_), None) => Ok(None),
-    }
-}
-
-/// An item that ends the term before it.
-fn with_item(reader: ItemReader, item: Item) -> Result<Option<ItemReader>, NoMemory>
-    ensures { IfOk result (λ o. o ≡ machine.with_item reader item) }
-{
-    let ItemReader {
-        items,
-        left,
-        calls,
-        count,
-        last,
-    } = reader;
-    match flushed(items, left, last)? {
-        None => Ok(None),
-        Some(mut items) => {
-            items.push(item)?;
-            Ok(Some(ItemReader {
-                items,
-                left: None,
-                calls,
-                count,
-                last: None,
-            }))
-        }
-    }
-}
-
 /// The head that a term by itself is.
-fn head_of(term: TermSyntax) -> Option<HeadName>
-    ensures { result ≡ machine.head_of term }
+fn head_of(term: TermSyntax) -> Result<HeadName, Stop>
+    ensures { Makes result (machine.head_of term) }
 {
     match term {
-        TermSyntax::Alone(head) => Some(head),
-        _ => None,
-    }
-}
-
-/// A bracket opens behind the term.
-fn opened(
-    alloc: Global,
-    items: Items<Item>,
-    left: Option<TermSyntax>,
-    calls: Stack<Call>,
-    count: u32,
-    term: TermSyntax,
-) -> Result<Option<ItemReader>, NoMemory>
-    ensures { IfOk result (λ o. o ≡ machine.opened items left calls count term) }
-{
-    if count >= MAX_OPEN {
-        return Ok(None);
-    }
-    match head_of(term) {
-        None => Ok(None),
-        Some(head) => {
-            let args = Items::new(alloc);
-            let mut calls = calls;
-            calls.push(Call { head, args })?;
-            Ok(Some(ItemReader {
-                items,
-                left,
-                calls,
-                count: count + 1,
-                last: None,
-            }))
+        TermSyntax::Alone(head) => Ok(head),
+        other => {
+            drop(other);
+            Err(Stop::Misplaced)
         }
     }
 }
 
-/// A bracket opens where no call is open: behind a head, or before a formula.
-fn open_outside(alloc: Global, reader: ItemReader) -> Result<Option<ItemReader>, NoMemory>
-    ensures { IfOk result (λ o. o ≡ machine.open_outside reader) }
+/// The item that a term ends: itself, or an equality.
+fn item_of(left: Option<TermSyntax>, term: TermSyntax) -> Item
+    ensures { result ≡ machine.item_of left term }
 {
-    let ItemReader {
-        items,
-        left,
-        calls,
-        count,
-        last,
-    } = reader;
-    match last {
-        Some(term) => opened(alloc, items, left, calls, count, term),
-        None => with_item(
-            ItemReader {
-                items,
-                left,
-                calls,
-                count,
-                last: None,
-            },
-            Item::Fixed(Mark::Open),
-        ),
+    match left {
+        None => Item::Term(term),
+        Some(left) => Item::Equal(left, term),
     }
 }
 
-/// The sign of an equality comes: what was read last is its left side.
-fn equals_outside(reader: ItemReader) -> Option<ItemReader>
-    ensures { result ≡ machine.equals_outside reader }
-{
-    let ItemReader {
-        items,
-        left,
-        calls,
-        count,
-        last,
-    } = reader;
-    match (left, last) {
-        (None, Some(s)) => Some(ItemReader {
-            items,
-            left: Some(s),
-            calls,
-            count,
-            last: None,
-        }),
-        _ => None,
-    }
-}
-
-/// A mark where no call is open.
-fn outside(alloc: Global, reader: ItemReader, mark: Mark) -> Result<Option<ItemReader>, NoMemory>
-    ensures { IfOk result (λ o. o ≡ machine.outside reader mark) }
-{
-    match mark {
-        Mark::Open => open_outside(alloc, reader),
-        Mark::Equals => Ok(equals_outside(reader)),
-        _ => with_item(reader, Item::Fixed(mark)),
-    }
-}
-
-fn with_arg(call: Call, term: TermSyntax) -> Result<Call, NoMemory>
+fn with_arg(call: Call, term: TermSyntax) -> Result<Call, AllocError>
     ensures { IfOk result (λ c. c ≡ machine.with_arg call term) }
 {
     let Call { head, mut args } = call;
@@ -203,176 +64,258 @@ fn with_arg(call: Call, term: TermSyntax) -> Result<Call, NoMemory>
     Ok(Call { head, args })
 }
 
-/// A mark behind an argument of the innermost open call; `calls` are those around it.
-fn inside(
-    alloc: Global,
-    items: Items<Item>,
-    left: Option<TermSyntax>,
-    call: Call,
-    calls: Stack<Call>,
-    count: u32,
-    term: TermSyntax,
-    mark: Mark,
-) -> Result<Option<ItemReader>, NoMemory>
-    ensures { IfOk result (λ o. o ≡ machine.inside items left call calls count term mark) }
-{
-    let mut calls = calls;
-    match mark {
-        Mark::Open => {
-            calls.push(call)?;
-            opened(alloc, items, left, calls, count, term)
+impl ItemReader {
+    pub(crate) fn new(alloc: Global) -> ItemReader
+        ensures { result ≡ machine.start }
+    {
+        ItemReader {
+            items: Items::new(alloc),
+            left: None,
+            calls: Stack::new(alloc),
+            count: 0,
+            last: None,
         }
-        Mark::Comma => {
-            calls.push(with_arg(call, term)?)?;
-            Ok(Some(ItemReader {
-                items,
-                left,
-                calls,
-                count,
-                last: None,
-            }))
+    }
+
+    /// A term comes, where none is there yet.
+    fn place(&mut self, term: TermSyntax) -> Result<(), Stop>
+        ensures { Leads result self.new (machine.placed self.old term) }
+    {
+        match self.last.replace(term) {
+            None => Ok(()),
+            Some(before) => {
+                drop(before);
+                Err(Stop::Misplaced)
+            }
         }
-        Mark::Close => {
-            let Call { head, args } = with_arg(call, term)?;
-            Ok(Some(ItemReader {
-                items,
-                left,
-                calls,
-                count: count.saturating_sub(1),
-                last: Some(TermSyntax::Applied(head, args)),
-            }))
+    }
+
+    /// The last term, or the equality that it ends, becomes an item.
+    fn flush(&mut self) -> Result<(), Stop>
+        ensures { Leads result self.new (machine.flush self.old) }
+    {
+        match self.last.take() {
+            Some(term) => {
+                let item = item_of(self.left.take(), term);
+                self.items.push(item)?;
+                Ok(())
+            }
+            None => match &self.left {
+                None => Ok(()),
+                Some(_) => Err(Stop::Misplaced),
+            },
         }
-        _ => Ok(None),
+    }
+
+    /// An item that ends the term before it.
+    fn put(&mut self, item: Item) -> Result<(), Stop>
+        ensures { Leads result self.new (machine.with_item self.old item) }
+    {
+        match self.flush() {
+            Ok(()) => {
+                self.items.push(item)?;
+                Ok(())
+            }
+            other => {
+                drop(item);
+                other
+            }
+        }
+    }
+
+    /// A bracket opens behind the term, which is a head then.
+    fn open_call(&mut self, alloc: Global, term: TermSyntax) -> Result<(), Stop>
+        ensures { Leads result self.new (machine.opened self.old term) }
+    {
+        if self.count >= MAX_OPEN {
+            drop(term);
+            return Err(Stop::Misplaced);
+        }
+        let head = head_of(term)?;
+        let args = Items::new(alloc);
+        self.calls.push(Call { head, args })?;
+        self.count += 1;
+        Ok(())
+    }
+
+    /// A bracket opens where no call is open: behind a head, or before a formula.
+    fn open_outside(&mut self, alloc: Global) -> Result<(), Stop>
+        ensures { Leads result self.new (machine.open_outside self.old) }
+    {
+        match self.last.take() {
+            None => self.put(Item::Fixed(Mark::Open)),
+            Some(term) => self.open_call(alloc, term),
+        }
+    }
+
+    /// The sign of an equality comes: what was read last is its left side.
+    fn equals(&mut self) -> Result<(), Stop>
+        ensures { Leads result self.new (machine.equals_outside self.old) }
+    {
+        let Some(term) = self.last.take() else {
+            return Err(Stop::Misplaced);
+        };
+        match self.left.replace(term) {
+            None => Ok(()),
+            Some(before) => {
+                drop(before);
+                Err(Stop::Misplaced)
+            }
+        }
+    }
+
+    /// A mark where no call is open.
+    fn mark_outside(&mut self, alloc: Global, mark: Mark) -> Result<(), Stop>
+        ensures { Leads result self.new (machine.outside self.old mark) }
+    {
+        match mark {
+            Mark::Open => self.open_outside(alloc),
+            Mark::Equals => self.equals(),
+            _ => self.put(Item::Fixed(mark)),
+        }
+    }
+
+    /// A bracket opens behind the argument of a call, which is a head then.
+    fn open_within(&mut self, alloc: Global, call: Call, term: TermSyntax) -> Result<(), Stop>
+        ensures { Leads result self.new (machine.inside self.old call term mark.Open) }
+    {
+        match self.calls.push(call) {
+            Ok(()) => self.open_call(alloc, term),
+            Err(_) => {
+                drop(term);
+                Err(Stop::NoMemory)
+            }
+        }
+    }
+
+    /// The bracket of the call closes behind its last argument.
+    fn close_call(&mut self, call: Call, term: TermSyntax) -> Result<(), Stop>
+        ensures { Leads result self.new (machine.inside self.old call term mark.Close) }
+    {
+        let Call { head, args } = with_arg(call, term)?;
+        self.count = self.count.saturating_sub(1);
+        drop(self.last.replace(TermSyntax::Applied(head, args)));
+        Ok(())
+    }
+
+    /// A mark behind the argument of the innermost open call.
+    fn mark_inside(
+        &mut self,
+        alloc: Global,
+        call: Call,
+        term: TermSyntax,
+        mark: Mark,
+    ) -> Result<(), Stop>
+        ensures { Leads result self.new (machine.inside self.old call term mark) }
+    {
+        match mark {
+            Mark::Open => self.open_within(alloc, call, term),
+            Mark::Comma => {
+                let call = with_arg(call, term)?;
+                self.calls.push(call)?;
+                Ok(())
+            }
+            Mark::Close => self.close_call(call, term),
+            _ => {
+                drop(call);
+                drop(term);
+                Err(Stop::Misplaced)
+            }
+        }
+    }
+
+    fn mark_next(&mut self, alloc: Global, mark: Mark) -> Result<(), Stop>
+        ensures { Leads result self.new (machine.mark_next self.old mark) }
+    {
+        let Some(call) = self.calls.pop() else {
+            return self.mark_outside(alloc, mark);
+        };
+        match self.last.take() {
+            None => {
+                drop(call);
+                Err(Stop::Misplaced)
+            }
+            Some(term) => self.mark_inside(alloc, call, term, mark),
+        }
+    }
+
+    fn word_next(&mut self, alloc: Global, lexeme: Lexeme) -> Result<(), Stop>
+        ensures { Leads result self.new (machine.word_next self.old lexeme) }
+    {
+        match lexeme {
+            Lexeme::Number(k) => self.place(TermSyntax::Number(k)),
+            Lexeme::RowVar(k, sort) => self.place(TermSyntax::RowVar(k, sort)),
+            Lexeme::Name(x) => self.place(TermSyntax::Alone(HeadName::Name(x))),
+            Lexeme::Skolem(x) => self.place(TermSyntax::Alone(HeadName::Skolem(x))),
+            Lexeme::Fixed(mark) => self.mark_next(alloc, mark),
+        }
+    }
+
+    /// A quantifier comes; inside a call there is none.
+    fn quantifier_next(
+        &mut self,
+        quantifier: Quantifier,
+        binders: Items<BinderSyntax>,
+    ) -> Result<(), Stop>
+        ensures { Leads result self.new (machine.quantifier_next self.old quantifier binders) }
+    {
+        match self.calls.pop() {
+            None => self.put(Item::Quantifier(quantifier, binders)),
+            Some(call) => {
+                drop(call);
+                drop(binders);
+                Err(Stop::Misplaced)
+            }
+        }
+    }
+
+    /// The reader one phrase further.
+    pub(crate) fn step(&mut self, alloc: Global, phrase: Phrase) -> Result<(), Stop>
+        ensures { Leads result self.new (machine.step self.old phrase) }
+    {
+        match phrase {
+            Phrase::Word(lexeme) => self.word_next(alloc, lexeme),
+            Phrase::Quantifier(quantifier, binders) => self.quantifier_next(quantifier, binders),
+        }
+    }
+
+    fn run(&mut self, alloc: Global, phrases: &mut Stack<Phrase>) -> Result<(), Stop>
+        ensures { Leads result self.new (machine.run phrases.old self.old) }
+    {
+        while let Some(phrase) = phrases.pop() {
+            self.step(alloc, phrase)?;
+        }
+        Ok(())
+    }
+
+    /// The items, where no call is open.
+    fn end(&mut self, alloc: Global) -> Result<Items<Item>, Stop>
+        ensures { Makes result (machine.ended self.old) }
+    {
+        match self.calls.pop() {
+            None => {
+                self.flush()?;
+                Ok(mem::replace(&mut self.items, Items::new(alloc)))
+            }
+            Some(call) => {
+                drop(call);
+                Err(Stop::Misplaced)
+            }
+        }
     }
 }
 
-fn mark_next(alloc: Global, reader: ItemReader, mark: Mark) -> Result<Option<ItemReader>, NoMemory>
-    ensures { IfOk result (λ o. o ≡ machine.mark_next reader mark) }
+/// The items of a text from its phrases.
+pub(crate) fn items_of(alloc: Global, phrases: Items<Phrase>) -> Result<Items<Item>, Stop>
+    ensures { Makes result (machine.items_of phrases) }
 {
-    let ItemReader {
-        items,
-        left,
-        mut calls,
-        count,
-        last,
-    } = reader;
-    match calls.pop() {
-        None => {
-            let reader = ItemReader {
-                items,
-                left,
-                calls: Stack::new(alloc),
-                count,
-                last,
-            };
-            outside(alloc, reader, mark)
-        }
-        Some(call) => match last {
-            None => Ok(None),
-            Some(term) => inside(alloc, items, left, call, calls, count, term, mark),
-        },
-    }
-}
-
-fn word_next(
-    alloc: Global,
-    reader: ItemReader,
-    lexeme: Lexeme,
-) -> Result<Option<ItemReader>, NoMemory>
-    ensures { IfOk result (λ o. o ≡ machine.word_next reader lexeme) }
-{
-    match lexeme {
-        Lexeme::Number(k) => Ok(placed(reader, TermSyntax::Number(k))),
-        Lexeme::RowVar(k, sort) => Ok(placed(reader, TermSyntax::RowVar(k, sort))),
-        Lexeme::Name(x) => Ok(placed(reader, TermSyntax::Alone(HeadName::Name(x)))),
-        Lexeme::Skolem(x) => Ok(placed(reader, TermSyntax::Alone(HeadName::Skolem(x)))),
-        Lexeme::Fixed(mark) => mark_next(alloc, reader, mark),
-    }
-}
-
-/// A quantifier comes; inside a call there is none.
-fn quantifier_next(
-    alloc: Global,
-    reader: ItemReader,
-    quantifier: Quantifier,
-    binders: Items<BinderSyntax>,
-) -> Result<Option<ItemReader>, NoMemory>
-    ensures { IfOk result (λ o. o ≡ machine.quantifier_next reader quantifier binders) }
-{
-    let ItemReader {
-        items,
-        left,
-        mut calls,
-        count,
-        last,
-    } = reader;
-    match calls.pop() {
-        None => {
-            let reader = ItemReader {
-                items,
-                left,
-                calls: Stack::new(alloc),
-                count,
-                last,
-            };
-            with_item(reader, Item::Quantifier(quantifier, binders))
-        }
-        Some(_) => Ok(None),
-    }
-}
-
-fn step(alloc: Global, reader: ItemReader, piece: Piece) -> Result<Option<ItemReader>, NoMemory>
-    ensures { IfOk result (λ o. o ≡ machine.step reader piece) }
-{
-    match piece {
-        Piece::Word(lexeme) => word_next(alloc, reader, lexeme),
-        Piece::Quantifier(quantifier, binders) => {
-            quantifier_next(alloc, reader, quantifier, binders)
-        }
-    }
-}
-
-/// The items where no call is open.
-fn ended(reader: ItemReader) -> Result<Option<Items<Item>>, NoMemory>
-    ensures { IfOk result (λ o. o ≡ machine.ended reader) }
-{
-    let ItemReader {
-        items,
-        left,
-        mut calls,
-        count: _,
-        last,
-    } = reader;
-    match calls.pop() {
-        None => flushed(items, left, last),
-        Some(_) => Ok(None),
-    }
-}
-
-fn nothing_read(alloc: Global) -> ItemReader
-    ensures { result ≡ machine.start }
-{
-    ItemReader {
-        items: Items::new(alloc),
-        left: None,
-        calls: Stack::new(alloc),
-        count: 0,
-        last: None,
-    }
-}
-
-/// The items of a text from its pieces; None where a term or an equality isn't written as one, or a
-/// term would be higher than 1,264.
-pub(crate) fn items_of(alloc: Global, pieces: Items<Piece>) -> Result<Option<Items<Item>>, NoMemory>
-    ensures { IfOk result (λ o. o ≡ machine.items_of pieces) }
-{
-    let mut rest = stacked(alloc, pieces)?;
-    let mut reader = nothing_read(alloc);
-    while let Some(piece) = rest.pop() {
-        match step(alloc, reader, piece)? {
-            None => return Ok(None),
-            Some(next) => reader = next,
-        }
-    }
-    ended(reader)
+    let mut rest = stacked(alloc, phrases)?;
+    let mut reader = ItemReader::new(alloc);
+    let items = match reader.run(alloc, &mut rest) {
+        Ok(()) => reader.end(alloc),
+        Err(stop) => Err(stop),
+    };
+    drop(reader);
+    drop(rest);
+    items
 }

@@ -5,7 +5,8 @@ ghost use Rattle.syn_term.specs.declared.tokens.TokenKind.TheVariants as kind;
 ghost use Rattle.syn_term.specs.Tokens.{IsToken, IsRowVariable};
 ghost use Rattle.syn_lex.specs.Lexing.{IsWhole, bytes_of, words_of, word_of};
 ghost use Rattle.syn_form.specs.declared.syntax.Lexeme.{Lexeme};
-ghost use Rattle.syn_parse.specs.Lexemes.{IsInside, IsWritten, NoLexeme, NoMark, NoNumber, Spell, Spells, row_word, word};
+ghost use Rattle.syn_parse.specs.Lexemes.{IsWritten};
+ghost use Rattle.syn_parse.specs.inner.Spelling.{IsInside, NoLexeme, NoMark, NoNumber, Spell, Spells, row_word, word};
 
 use crate::marks::mark_of;
 use sqlite_items::Items;

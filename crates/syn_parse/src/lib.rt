@@ -2,16 +2,18 @@
 //! names in it stand for is not looked at.
 #![tactic(auto)]
 
-mod binding;
+mod phrase_reader;
 mod form_frames;
 mod form_reader;
 mod item_reader;
 mod items;
 mod lexemes;
+mod limits;
 mod marks;
 mod out_reader;
 mod parse;
 mod stack;
+mod stop;
 mod syntaxes;
 
 pub use parse::{parse_form, parse_out, parse_term};

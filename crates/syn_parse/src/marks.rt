@@ -1,7 +1,7 @@
 // The marks, told by their words.
 ghost use Rattle.std.specs.Prelude.{◌≡◌, ◌↔◌, IsTrue, MatchOption};
 ghost use Rattle.syn_form.specs.Grammar.{mark_word};
-ghost use Rattle.syn_parse.specs.Lexemes.{word, NoMark};
+ghost use Rattle.syn_parse.specs.inner.Spelling.{word, NoMark};
 
 use syn_form::Mark;
 use syn_term::TokenKind;

@@ -1,16 +1,19 @@
 // An output is read from its items by a machine over a stack of the choices that are open. The items
 // of a test go to the reader of formulas.
-ghost use Rattle.std.specs.Prelude.{◌≡◌, IfOk};
-ghost use Rattle.syn_parse.specs.OutMachine as machine;
+ghost use Rattle.std.specs.Prelude.{◌≡◌};
+ghost use Rattle.syn_parse.specs.inner.Leads.{Leads, Makes};
+ghost use Rattle.syn_parse.specs.inner.OutMachine as machine;
 
-use crate::form_frames::{MAX_HEIGHT, Tall};
-use crate::form_reader::{self, FormReader};
+use crate::form_frames::Tall;
+use crate::form_reader::FormReader;
 use crate::items::Item;
-use crate::stack::{Stack, stacked};
-use sqlite_items::{Boxed, Items};
+use crate::limits::MAX_HEIGHT;
+use crate::stack::{Stack, boxes, stacked};
+use crate::stop::Stop;
+use sqlite_items::Items;
 use std::alloc::Global;
+use std::mem;
 use syn_form::{Mark, OutSyntax, TermSyntax};
-use syn_term::NoMemory;
 
 /// An output with its height.
 #[derive(Drop)]
@@ -29,7 +32,7 @@ enum Arm {
 
 /// Where the reader stands: an output is wanted, a test is being read, or an output is there.
 #[derive(Drop)]
-enum Stage {
+enum OutStage {
     Wanted,
     Test(FormReader),
     Here(TallOut),
@@ -39,56 +42,32 @@ enum Stage {
 #[derive(Drop)]
 struct OutReader {
     arms: Stack<Arm>,
-    stage: Stage,
+    stage: OutStage,
 }
 
-fn wanted(arms: Stack<Arm>) -> OutReader
-    ensures { result ≡ machine.wanted arms }
-{
-    OutReader {
-        arms,
-        stage: Stage::Wanted,
-    }
-}
-
-fn testing(arms: Stack<Arm>, test: FormReader) -> OutReader
-    ensures { result ≡ machine.testing arms test }
-{
-    OutReader {
-        arms,
-        stage: Stage::Test(test),
-    }
-}
-
-fn here(arms: Stack<Arm>, u: TallOut) -> OutReader
-    ensures { result ≡ machine.here arms u }
-{
-    OutReader {
-        arms,
-        stage: Stage::Here(u),
-    }
-}
-
-/// An output whose highest part has the height `below`; None where it would be too high.
-fn built(out: OutSyntax, below: u32) -> Option<TallOut>
-    ensures { result ≡ machine.built out below }
+/// An output whose highest part has the height `below`, where it is not too high.
+fn built(out: OutSyntax, below: u32) -> Result<TallOut, Stop>
+    ensures { Makes result (machine.built out below) }
 {
     if below < MAX_HEIGHT {
-        Some(TallOut {
-            out,
-            height: below + 1,
-        })
-    } else {
-        None
+        let height = below + 1;
+        return Ok(TallOut { out, height });
     }
+    drop(out);
+    Err(Stop::Misplaced)
 }
 
-fn choice_of(alloc: Global, test: Tall, a: TallOut, b: TallOut) -> Result<Option<TallOut>, NoMemory>
-    ensures { IfOk result (λ o. o ≡ machine.choice_of test a b) }
+fn choice_of(alloc: Global, test: Tall, a: TallOut, b: TallOut) -> Result<TallOut, Stop>
+    ensures { Makes result (machine.choice_of test a b) }
 {
     let below = test.height.max(a.height.max(b.height));
-    let (first, second) = (Boxed::new(alloc, a.out)?, Boxed::new(alloc, b.out)?);
-    Ok(built(OutSyntax::If(test.form, first, second), below))
+    match boxes(alloc, a.out, b.out) {
+        Ok((first, second)) => built(OutSyntax::If(test.form, first, second), below),
+        Err(_) => {
+            drop(test);
+            Err(Stop::NoMemory)
+        }
+    }
 }
 
 fn given(t: TermSyntax) -> TallOut
@@ -100,192 +79,209 @@ fn given(t: TermSyntax) -> TallOut
     }
 }
 
-/// An output comes: it ends each choice on top that waits for its second arm.
-fn came(alloc: Global, arms: Stack<Arm>, u: TallOut) -> Result<Option<OutReader>, NoMemory>
-    ensures { IfOk result (λ o. o ≡ machine.came arms u) }
-{
-    let (mut arms, mut last) = (arms, u);
-    while let Some(arm) = arms.pop() {
-        match arm {
-            Arm::Then(test) => {
-                arms.push(Arm::Then(test))?;
-                return Ok(Some(here(arms, last)));
+impl OutReader {
+    fn new(alloc: Global) -> OutReader
+        ensures { result ≡ machine.start }
+    {
+        OutReader {
+            arms: Stack::new(alloc),
+            stage: OutStage::Wanted,
+        }
+    }
+
+    fn stand(&mut self, stage: OutStage)
+        ensures { self.new ≡ machine.stands self.old.arms stage }
+    {
+        drop(mem::replace(&mut self.stage, stage));
+    }
+
+    /// An output comes: it ends each choice on top that waits for its second arm.
+    fn came(&mut self, alloc: Global, u: TallOut) -> Result<(), Stop>
+        ensures { Leads result self.new (machine.came self.old.arms u) }
+    {
+        let mut last = u;
+        while let Some(arm) = self.arms.pop() {
+            match arm {
+                Arm::Else(test, first) => last = choice_of(alloc, test, first, last)?,
+                Arm::Then(test) => return self.came_first(test, last),
             }
-            Arm::Else(test, first) => match choice_of(alloc, test, first, last)? {
-                None => return Ok(None),
-                Some(next) => last = next,
-            },
+        }
+        self.stand(OutStage::Here(last));
+        Ok(())
+    }
+
+    /// An output comes as the first arm of a choice with this test.
+    fn came_first(&mut self, test: Tall, u: TallOut) -> Result<(), Stop>
+        ensures { Leads result self.new (Some (machine.came_first self.old.arms test u)) }
+    {
+        match self.arms.push(Arm::Then(test)) {
+            Ok(()) => {
+                self.stand(OutStage::Here(u));
+                Ok(())
+            }
+            Err(_) => {
+                drop(u);
+                Err(Stop::NoMemory)
+            }
         }
     }
-    Ok(Some(here(Stack::new(alloc), last)))
-}
 
-/// A mark where an output is wanted.
-fn mark_first(alloc: Global, arms: Stack<Arm>, mark: Mark) -> Option<OutReader>
-    ensures { result ≡ machine.mark_first arms mark }
-{
-    match mark {
-        Mark::If => Some(testing(arms, form_reader::start(alloc))),
-        _ => None,
-    }
-}
-
-/// The next item where an output is wanted.
-fn begun(alloc: Global, arms: Stack<Arm>, item: Item) -> Result<Option<OutReader>, NoMemory>
-    ensures { IfOk result (λ o. o ≡ machine.begun arms item) }
-{
-    match item {
-        Item::Term(t) => came(alloc, arms, given(t)),
-        Item::Fixed(mark) => Ok(mark_first(alloc, arms, mark)),
-        _ => Ok(None),
-    }
-}
-
-/// `then` ends the test.
-fn then_next(
-    alloc: Global,
-    arms: Stack<Arm>,
-    test: FormReader,
-) -> Result<Option<OutReader>, NoMemory>
-    ensures { IfOk result (λ o. o ≡ machine.then_next arms test) }
-{
-    let mut arms = arms;
-    let Some(whole) = form_reader::finished(alloc, test)? else {
-        return Ok(None);
-    };
-    arms.push(Arm::Then(whole))?;
-    Ok(Some(wanted(arms)))
-}
-
-fn test_next(
-    alloc: Global,
-    arms: Stack<Arm>,
-    test: FormReader,
-    item: Item,
-) -> Result<Option<OutReader>, NoMemory>
-    ensures { IfOk result (λ o. o ≡ machine.test_next arms test item) }
-{
-    match form_reader::step(alloc, test, item)? {
-        None => Ok(None),
-        Some(next) => Ok(Some(testing(arms, next))),
-    }
-}
-
-/// A mark inside a test.
-fn test_mark(
-    alloc: Global,
-    arms: Stack<Arm>,
-    test: FormReader,
-    mark: Mark,
-) -> Result<Option<OutReader>, NoMemory>
-    ensures { IfOk result (λ o. o ≡ machine.test_mark arms test mark) }
-{
-    match mark {
-        Mark::Then => then_next(alloc, arms, test),
-        _ => test_next(alloc, arms, test, Item::Fixed(mark)),
-    }
-}
-
-/// The next item inside a test.
-fn tested(
-    alloc: Global,
-    arms: Stack<Arm>,
-    test: FormReader,
-    item: Item,
-) -> Result<Option<OutReader>, NoMemory>
-    ensures { IfOk result (λ o. o ≡ machine.tested arms test item) }
-{
-    match item {
-        Item::Fixed(mark) => test_mark(alloc, arms, test, mark),
-        _ => test_next(alloc, arms, test, item),
-    }
-}
-
-/// `else` after the first arm of a choice.
-fn else_next(arms: Stack<Arm>, u: TallOut) -> Result<Option<OutReader>, NoMemory>
-    ensures { IfOk result (λ o. o ≡ machine.else_next arms u) }
-{
-    let mut arms = arms;
-    let Some(arm) = arms.pop() else {
-        return Ok(None);
-    };
-    match arm {
-        Arm::Then(test) => {
-            arms.push(Arm::Else(test, u))?;
-            Ok(Some(wanted(arms)))
+    /// A mark where an output is wanted.
+    fn mark_first(&mut self, alloc: Global, mark: Mark) -> Result<(), Stop>
+        ensures { Leads result self.new (machine.mark_first self.old.arms mark) }
+    {
+        match mark {
+            Mark::If => {
+                self.stand(OutStage::Test(FormReader::new(alloc)));
+                Ok(())
+            }
+            _ => Err(Stop::Misplaced),
         }
-        Arm::Else(_, _) => Ok(None),
+    }
+
+    /// The next item where an output is wanted.
+    fn begun(&mut self, alloc: Global, item: Item) -> Result<(), Stop>
+        ensures { Leads result self.new (machine.begun self.old.arms item) }
+    {
+        match item {
+            Item::Term(t) => self.came(alloc, given(t)),
+            Item::Fixed(mark) => self.mark_first(alloc, mark),
+            other => {
+                drop(other);
+                Err(Stop::Misplaced)
+            }
+        }
+    }
+
+    /// `then` ends the test.
+    fn then_next(&mut self, alloc: Global, test: FormReader) -> Result<(), Stop>
+        ensures { Leads result self.new (machine.then_next self.old.arms test) }
+    {
+        let mut test = test;
+        let whole = test.finish(alloc);
+        drop(test);
+        self.arms.push(Arm::Then(whole?))?;
+        self.stand(OutStage::Wanted);
+        Ok(())
+    }
+
+    fn test_next(&mut self, alloc: Global, test: FormReader, item: Item) -> Result<(), Stop>
+        ensures { Leads result self.new (machine.test_next self.old.arms test item) }
+    {
+        let mut test = test;
+        match test.step(alloc, item) {
+            Ok(()) => {
+                self.stand(OutStage::Test(test));
+                Ok(())
+            }
+            other => {
+                drop(test);
+                other
+            }
+        }
+    }
+
+    /// The next item inside a test.
+    fn tested(&mut self, alloc: Global, test: FormReader, item: Item) -> Result<(), Stop>
+        ensures { Leads result self.new (machine.tested self.old.arms test item) }
+    {
+        match item {
+            Item::Fixed(Mark::Then) => self.then_next(alloc, test),
+            other => self.test_next(alloc, test, other),
+        }
+    }
+
+    /// `else` after the first arm of a choice.
+    fn else_next(&mut self, u: TallOut) -> Result<(), Stop>
+        ensures { Leads result self.new (machine.else_next self.old.arms u) }
+    {
+        match self.arms.pop() {
+            Some(Arm::Then(test)) => {
+                self.arms.push(Arm::Else(test, u))?;
+                self.stand(OutStage::Wanted);
+                Ok(())
+            }
+            other => {
+                drop(other);
+                drop(u);
+                Err(Stop::Misplaced)
+            }
+        }
+    }
+
+    /// The next item after the output `u`.
+    fn went_on(&mut self, u: TallOut, item: Item) -> Result<(), Stop>
+        ensures { Leads result self.new (machine.went_on self.old.arms u item) }
+    {
+        match item {
+            Item::Fixed(Mark::Else) => self.else_next(u),
+            other => {
+                drop(other);
+                drop(u);
+                Err(Stop::Misplaced)
+            }
+        }
+    }
+
+    /// The reader one item further.
+    fn step(&mut self, alloc: Global, item: Item) -> Result<(), Stop>
+        ensures { Leads result self.new (machine.step self.old item) }
+    {
+        match mem::replace(&mut self.stage, OutStage::Wanted) {
+            OutStage::Wanted => self.begun(alloc, item),
+            OutStage::Test(test) => self.tested(alloc, test, item),
+            OutStage::Here(u) => self.went_on(u, item),
+        }
+    }
+
+    fn run(&mut self, alloc: Global, items: &mut Stack<Item>) -> Result<(), Stop>
+        ensures { Leads result self.new (machine.run items.old self.old) }
+    {
+        while let Some(item) = items.pop() {
+            self.step(alloc, item)?;
+        }
+        Ok(())
+    }
+
+    /// The output `u`, where no choice is open.
+    fn whole(&mut self, u: TallOut) -> Result<OutSyntax, Stop>
+        ensures { Makes result (machine.whole_with self.old.arms u) }
+    {
+        match self.arms.pop() {
+            None => Ok(u.out),
+            Some(arm) => {
+                drop(arm);
+                drop(u);
+                Err(Stop::Misplaced)
+            }
+        }
+    }
+
+    /// The output that was read, where no choice is open.
+    fn end(&mut self) -> Result<OutSyntax, Stop>
+        ensures { Makes result (machine.ended self.old) }
+    {
+        match mem::replace(&mut self.stage, OutStage::Wanted) {
+            OutStage::Here(u) => self.whole(u),
+            other => {
+                drop(other);
+                Err(Stop::Misplaced)
+            }
+        }
     }
 }
 
-/// A mark after the output `u`.
-fn mark_after(arms: Stack<Arm>, u: TallOut, mark: Mark) -> Result<Option<OutReader>, NoMemory>
-    ensures { IfOk result (λ o. o ≡ machine.mark_after arms u mark) }
-{
-    match mark {
-        Mark::Else => else_next(arms, u),
-        _ => Ok(None),
-    }
-}
-
-/// The next item after the output `u`.
-fn went_on(arms: Stack<Arm>, u: TallOut, item: Item) -> Result<Option<OutReader>, NoMemory>
-    ensures { IfOk result (λ o. o ≡ machine.went_on arms u item) }
-{
-    match item {
-        Item::Fixed(mark) => mark_after(arms, u, mark),
-        _ => Ok(None),
-    }
-}
-
-/// The reader one item further; None where no output goes on so.
-fn step(alloc: Global, r: OutReader, item: Item) -> Result<Option<OutReader>, NoMemory>
-    ensures { IfOk result (λ o. o ≡ machine.step r item) }
-{
-    let OutReader { arms, stage } = r;
-    match stage {
-        Stage::Wanted => begun(alloc, arms, item),
-        Stage::Test(test) => tested(alloc, arms, test, item),
-        Stage::Here(u) => went_on(arms, u, item),
-    }
-}
-
-/// The output that was read; None where a choice is open or an output is missing.
-fn ended(r: OutReader) -> Option<OutSyntax>
-    ensures { result ≡ machine.ended r }
-{
-    let OutReader { arms, stage } = r;
-    let mut arms = arms;
-    let Stage::Here(u) = stage else {
-        return None;
-    };
-    match arms.pop() {
-        None => Some(u.out),
-        Some(_) => None,
-    }
-}
-
-/// The reader after all the items.
-fn run(alloc: Global, items: Items<Item>) -> Result<Option<OutReader>, NoMemory>
-    ensures { IfOk result (λ o. o ≡ machine.run items machine.start) }
+/// The output that the items are.
+pub(crate) fn out_of_items(alloc: Global, items: Items<Item>) -> Result<OutSyntax, Stop>
+    ensures { Makes result (machine.parsed items) }
 {
     let mut rest = stacked(alloc, items)?;
-    let mut reader = wanted(Stack::new(alloc));
-    while let Some(item) = rest.pop() {
-        match step(alloc, reader, item)? {
-            None => return Ok(None),
-            Some(next) => reader = next,
-        }
-    }
-    Ok(Some(reader))
-}
-
-/// The output that the items are; None where they are none, or one that is too high.
-pub(crate) fn out_of_items(alloc: Global, items: Items<Item>) -> Result<Option<OutSyntax>, NoMemory>
-    ensures { IfOk result (λ o. o ≡ machine.parsed items) }
-{
-    match run(alloc, items)? {
-        None => Ok(None),
-        Some(reader) => Ok(ended(reader)),
-    }
+    let mut reader = OutReader::new(alloc);
+    let out = match reader.run(alloc, &mut rest) {
+        Ok(()) => reader.end(),
+        Err(stop) => Err(stop),
+    };
+    drop(reader);
+    drop(rest);
+    out
 }

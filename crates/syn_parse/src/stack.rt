@@ -1,7 +1,7 @@
 // A stack that contracts see as a list with the top at its head.
 ghost use Rattle.std.specs.Prelude.{◌≡◌, [], ◌∷◌, OnOk, IfOk, MatchOption};
 
-use sqlite_items::Items;
+use sqlite_items::{Boxed, Items};
 use std::alloc::{AllocError, Global};
 use std::marker::Model;
 
@@ -38,7 +38,7 @@ impl<T: Drop> Stack<T> {
     }
 
     pub(crate) fn pop(&mut self) -> Option<T>
-        ensures { MatchOption result (self.old ≡ []) (λ top. self.old ≡ top ∷ self.new) }
+        ensures { MatchOption result ((self.old ≡ []) × (self.new ≡ [])) (λ top. self.old ≡ top ∷ self.new) }
     {
         self.inner.pop()
     }
@@ -54,4 +54,11 @@ pub(crate) fn stacked<T: Drop>(alloc: Global, items: Items<T>) -> Result<Stack<T
         stack.push(last)?;
     }
     Ok(stack)
+}
+
+/// Two values in boxes.
+pub(crate) fn boxes<T: Drop>(alloc: Global, a: T, b: T) -> Result<(Boxed<T>, Boxed<T>), AllocError>
+    ensures { IfOk result (λ pair. (pair.0 ≡ a) × (pair.1 ≡ b)) }
+{
+    Ok((Boxed::new(alloc, a)?, Boxed::new(alloc, b)?))
 }

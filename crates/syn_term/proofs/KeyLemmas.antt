@@ -1,5 +1,5 @@
 -- How the hash table answers for the list of symbols: its keys are the symbols' names, so a place among the keys is a
--- symbol's number, and keys that differ are names that differ.
+-- symbol's number, and what is entered under a new name goes last.
 use Rattle.std.proofs.Common.{◌≡◌, ℕ, ◌+◌, ◌<◌, ◌≤◌, ◌^◌, Bool, false, not, cond, List, [], ◌∷◌, ◌++◌, Option, Some, None, Contains, String, string_bytes, length, get_or, map, position, slice_get, sym, ◌∙◌, ap, subst, refl, ⊎_elim, arith, true≢false, length-append, nat_lt}
 use Rattle.std.specs.List.{AllByRecursion, IsDistinct, prefix_len, position_or_len}
 use Rattle.std.specs.Str.{bytes_eq}
@@ -18,7 +18,7 @@ use Rattle.std.proofs.lemmas.Map.Keys.{apart_from_distinct}
 use Rattle.std.proofs.lemmas.Option.{slice_get-map, get_or_from_slice_get, slice_get_within, slice_get-get_or}
 use Rattle.indexmap.specs.IndexMap.{insert_entry}
 use Rattle.syn_term.specs.declared.sorts.Sym.{Sym}
-use Rattle.syn_term.specs.SymbolKeys.{IsKeyed}
+use Rattle.syn_term.specs.inner.SymbolKeys.{IsKeyed}
 use Rattle.syn_term.specs.Symbols.{SymbolTable, HasDistinctNames, names_of, with_symbol}
 use Rattle.syn_term.specs.declared.sorts.NamedSort.{NamedSort}
 
@@ -69,33 +69,6 @@ some_named ns q i e =
     let at = position-Some (bytes_eq q) ns i [] (sym e) in
     slice_get-get_or ns i [] at.0 ∙ ap Some (sym ((bytes_eq-Decides q (get_or ns i [])).0 at.1))
 
-all_map : {X Y : Type 0} (P : Y → Type 0) (f : X → Y) (xs : List X) → AllByRecursion (λ x. P (f x)) xs → AllByRecursion P (map f xs)
-all_map P f [] h = h
-all_map P f (x ∷ xs) h = (h.0, all_map P f xs h.1)
-
-distinct_map : {X Y : Type 0} (e : Y → Y → Bool) (f : X → Y) (xs : List X) → IsDistinct (λ a b. e (f a) (f b)) xs → IsDistinct e (map f xs)
-unfolding IsDistinct
-distinct_map e f [] h = h
-distinct_map e f (x ∷ xs) h = (all_map (λ y. e (f x) y ≡ false) f xs h.0, distinct_map e f xs h.1)
-
-apart : (ns : List (List ℕ)) (i j : ℕ) (a : List ℕ) → IsDistinct bytes_eq ns → slice_get ns i ≡ Some a → slice_get ns j ≡ Some a → i < j → ⊥
-apart ns i j a distinct at_i at_j lt =
-    let fails = apart_from_distinct bytes_eq ns i j a distinct lt (slice_get_within ns j a at_j) in
-    let same : get_or ns i a ≡ get_or ns j a = get_or_from_slice_get ns i a a at_i ∙ sym (get_or_from_slice_get ns j a a at_j) in
-    true≢false (sym ((bytes_eq-Decides (get_or ns i a) (get_or ns j a)).1 same) ∙ fails)
-
--- keys that differ are names that differ
-pub distinct_names : (t : SymbolTable) (es : List Entry) → IsKeyed es → names_in es ≡ names_of t → IsDistinct string_eq (keys_of es) → HasDistinctNames t
-distinct_names t es keyed same distinct i j a b at_i at_j e =
-    let ns : List (List ℕ) = names_of t in
-    let names : IsDistinct bytes_eq ns = subst (IsDistinct bytes_eq) (names_are es keyed ∙ same) (distinct_map bytes_eq string_bytes (keys_of es) distinct) in
-    let name_i : slice_get ns i ≡ Some b.name = slice_get-map (λ s. s.name) t.syms i ∙ (ap (option_map (λ (s : Sym). s.name)) at_i ∙ ap Some e) in
-    let name_j : slice_get ns j ≡ Some b.name = slice_get-map (λ s. s.name) t.syms j ∙ ap (option_map (λ (s : Sym). s.name)) at_j in
-    ⊎_elim
-    (λ lt. absurd (apart ns i j b.name names name_i name_j lt))
-    (λ le. ⊎_elim (λ lt. absurd (apart ns j i b.name names name_j name_i lt)) (λ ge. omega arith) (cases_lt j i))
-    (cases_lt i j)
-
 -- a key that no symbol has as its name is none of the keys, so an entry under it goes last
 absent : (n : List ℕ) (es : List Entry) → (Contains (map (λ (e : Entry). string_bytes e.0) es) n → ⊥) → AllByRecursion (λ (e : Entry). bytes_eq n (string_bytes e.0) ≡ false) es
 absent n [] h = tt
@@ -135,7 +108,3 @@ pub symbol_last : (t : SymbolTable) (k : String Global) (s : Sym) (es new : List
 symbol_last t k s es new sorts view is =
     ap (λ (xs : List Entry). table (values_of xs) sorts) is
     ∙ (ap (λ (xs : List Sym). table xs sorts) (map-append (λ (e : Entry). e.1) es ((k, s) ∷ [])) ∙ ap (λ (u : SymbolTable). with_symbol u s) view)
-
--- and no two symbols have one name
-pub distinct_table : (es : List Entry) (sorts : List NamedSort) → IsKeyed es → IsDistinct string_eq (keys_of es) → HasDistinctNames (table (values_of es) sorts)
-distinct_table es sorts keyed distinct = distinct_names (table (values_of es) sorts) es keyed refl distinct

@@ -1,4 +1,5 @@
 pub mod Trees
+pub mod Positions
 pub mod Same
 pub mod Banks
 pub mod Lists
@@ -8,6 +9,7 @@ pub mod Fronts
 pub mod Passes
 pub mod WordRuns
 pub mod ReservedWords
+pub mod Continuing
 pub mod NameRuns
 pub mod NumberRuns
 pub mod Cuts
@@ -16,6 +18,8 @@ pub mod SkolemRuns
 pub mod SignRuns
 pub mod TokenLaws
 pub mod TokenBegins
+pub mod WholeTokens
+pub mod StartCases
 pub mod Spaced
 pub mod BeginsCases
 pub mod OneSpelling
@@ -24,3 +28,6 @@ pub mod SkolemLemmas
 pub mod SymbolLaws
 pub mod KeyLemmas
 pub mod SortLemmas
+pub mod TableLaws
+pub mod Indexed
+pub mod Copies

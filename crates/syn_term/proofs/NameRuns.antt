@@ -64,6 +64,27 @@ free_counted bs some =
           ))
     ] refl some
 
+-- no word goes on behind what is counted
+pub name_ends : (bs : List ℕ) → 0 < name_len bs → run_len (front_chars (drop (name_len bs) bs)) ≡ 0
+name_ends bs some =
+    let c = name_counted bs some in
+    let k : name_len bs ≡ word_len (front_chars bs) = c.whole in
+    let r = word_reach bs (name_len bs) c.within c.word in
+    omega (arith, k, r)
+
+free_is_name : (bs : List ℕ) → 0 < free_name_len bs → free_name_len bs ≡ name_len bs
+unfolding free_name_len
+free_is_name bs some =
+    elim (is_reserved (take (name_len bs) bs)) as (λ z. 0 < cond z 0 (name_len bs) → cond z 0 (name_len bs) ≡ name_len bs) [
+      | true ↦ (λ h. absurd (omega arith))
+      | false ↦ (λ h. refl)
+    ] some
+
+pub free_ends : (bs : List ℕ) → 0 < free_name_len bs → run_len (front_chars (drop (free_name_len bs) bs)) ≡ 0
+free_ends bs some =
+    let e : free_name_len bs ≡ name_len bs = free_is_name bs some in
+    ap (λ (z : ℕ). run_len (front_chars (drop z bs))) e ∙ name_ends bs (subst (λ (z : ℕ). 0 < z) e some)
+
 not_reserved : (bs : List ℕ) → (Contains reserved bs → ⊥) → is_reserved bs ≡ false
 not_reserved bs free =
     elim (is_reserved bs) as (λ z. is_reserved bs ≡ z → z ≡ false) [

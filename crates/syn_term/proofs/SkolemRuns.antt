@@ -1,5 +1,6 @@
 -- The Skolem symbol at the front of some bytes: what is counted is one, and none at the front is longer.
 use Rattle.std.proofs.Common.{◌≡◌, ℕ, ◌+◌, ◌-◌, ◌<◌, ◌≤◌, true, false, List, [], ◌∷◌, ◌++◌, cond, nat_eq, length, get_or, take, drop, refl, sym, ◌∙◌, ap, subst, arith, take-add, append_assoc, append-nil}
+use Rattle.std.specs.Char.{is_ascii_digit}
 use Rattle.std.proofs.lemmas.List.{length-drop, drop-drop}
 use Rattle.syn_term.specs.Names.{IsTag, IsNumber, IsSkolemName}
 use Rattle.syn_term.specs.Tokens.{IsDigits, joined, digits, counted_len, tag_len, stop_len, skolem_len, run_len, front_chars}
@@ -8,6 +9,7 @@ use Rattle.syn_term.proofs.NameLaws.{skolem_is}
 use Rattle.syn_term.proofs.WordRuns.{run_at_mark}
 use Rattle.syn_term.proofs.NameRuns.{tag_counted, tag_whole}
 use Rattle.syn_term.proofs.NumberRuns.{counted_counted, front_number, number_digits}
+use Rattle.syn_term.proofs.Continuing.{digits_stop}
 use Rattle.syn_term.proofs.Cuts.{cut, joined_some, mark_then, first_of_front}
 
 -- where an end is counted, it is a full stop and a number
@@ -79,6 +81,21 @@ skolem_counted bs first long some =
       },
       omega (arith, size),
     )
+
+-- no digit stands behind it
+pub skolem_ends : (bs : List ℕ) → 0 < skolem_len bs → is_ascii_digit (get_or (drop (skolem_len bs) bs) 0 0) ≡ false
+skolem_ends bs some =
+    let t : ℕ = tag_len (drop 1 bs) in
+    let Z : List ℕ = drop (1 + t) bs in
+    let d : ℕ = counted_len (drop 1 Z) in
+    let p = parts_of bs some in
+    let k : stop_len Z ≡ 1 + d = p.stop.size in
+    let all : d ≡ digits (drop 1 Z) = (counted_counted (drop 1 Z) p.stop.some).whole in
+    let size : skolem_len bs ≡ (1 + t) + (1 + digits (drop 1 Z)) = p.size ∙ omega (arith, k, all) in
+    let there : drop (digits (drop 1 Z)) (drop 1 Z) ≡ drop ((1 + t) + (1 + digits (drop 1 Z))) bs =
+    drop-drop (digits (drop 1 Z)) 1 Z ∙ drop-drop (1 + digits (drop 1 Z)) (1 + t) bs in
+    ap (λ (z : ℕ). is_ascii_digit (get_or (drop z bs) 0 0)) size
+    ∙ (ap (λ (z : List ℕ). is_ascii_digit (get_or z 0 0)) (sym there) ∙ digits_stop (drop 1 Z))
 
 -- the number of the symbol is part of the digits behind the stop
 stop_longest : (bs number : List ℕ) → IsNumber number → take (1 + length number) bs ≡ 46 ∷ number → 1 + length number ≤ length bs → 0 < counted_len (drop 1 bs) → length number ≤ counted_len (drop 1 bs)

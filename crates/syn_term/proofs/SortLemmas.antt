@@ -1,4 +1,4 @@
--- What stays as sorts are declared and symbols are added: names are distinct, and what is kept beside the lists fits them.
+-- The names of sorts: they stay distinct as sorts are declared and symbols are added, and a name is found at its place.
 use Rattle.std.proofs.Math.Dec.{leb}
 use Rattle.std.proofs.Common.{◌≡◌, ◌≢◌, ◌↔◌, IsTrue, ℕ, zero, suc, ◌+◌, ◌-◌, min, ◌<◌, ◌≤◌, ◌^◌, ◌⊎◌, Bool, true, false, List, [], ◌∷◌, ◌++◌, Option, Some, None, Any, Contains, String, codes, string_bytes, length, get_or, map, position, slice_get, sym, ◌∙◌, ap, subst, refl, ⊎_elim, inl, inr, arith, length-append, true≢false}
 use Rattle.std.specs.Option.{option_map}
@@ -25,9 +25,13 @@ use Rattle.syn_term.specs.declared.sorts.Sym.{Sym}
 use Rattle.syn_term.specs.Names.{IsName, IsSkolemName}
 use Rattle.syn_term.specs.Symbols.{SymbolTable, FitsName, IsTaken, MayAdd, names_of, with_symbol}
 use Rattle.syn_term.specs.DeclaredSorts.{HasDistinctSorts, default_size, default_sizes, name_of_sort, shape_size, size_in, with_sort}
-use Rattle.syn_term.specs.SymbolKeys.{IsKept, IsNew}
-use Rattle.syn_term.proofs.KeyLemmas.{none_named, some_named, entry_last, keyed_more, symbol_last}
+use Rattle.syn_term.proofs.KeyLemmas.{none_named, some_named}
 use Rattle.syn_term.proofs.NameLaws.{skolem_is}
+
+-- Nothing has the name, and it is not `nat`.
+pub record IsNew (table : SymbolTable) (name : List ℕ) : Type 0 where
+  pub free : ¬ (IsTaken table name)
+  pub other : name ≢ codes "nat"
 
 -- a name is not `nat`, and the name of a Skolem symbol isn't either
 pub name_other : (n : List ℕ) → IsName n → n ≢ codes "nat"
@@ -133,39 +137,6 @@ new_beside_sort t y n new ne = record {
   other = new.other;
 }
 
-abbrev Entry : Type 0
-Entry = String Global × Sym
-
-abbrev table : List Entry → List NamedSort → SymbolTable
-table es sorts = record { syms = values_of es; sorts = sorts }
-
--- one sort more
-pub kept_sort : (es : List Entry) (sorts : List NamedSort) (sizes : List ℕ) (nat : Shape) (y : NamedSort) (size : ℕ) → IsKept es sorts sizes nat → IsNew (table es sorts) y.name → size ≡ shape_size (default_sizes sorts) y.shape → length sorts < 2 ^ 32 → IsKept es (sorts ++ y ∷ []) (sizes ++ size ∷ []) nat
-kept_sort es sorts sizes nat y size kept new is few = record {
-  keyed = kept.keyed;
-  sized = ap (λ (ns : List ℕ). ns ++ size ∷ []) kept.sized
-      ∙ (ap (λ (n : ℕ). default_sizes sorts ++ n ∷ []) is
-      ∙ sym (fold-append (λ (ns : List ℕ) (s : NamedSort). ns ++ shape_size ns s.shape ∷ []) [] sorts (y ∷ [])));
-  few = omega (arith, length-append sorts (y ∷ []));
-  apart = apart_sort (table es sorts) y kept.apart new;
-  lent = kept.lent;
-}
-
--- one symbol more
-pub kept_symbol : (es new : List Entry) (sorts : List NamedSort) (sizes : List ℕ) (nat : Shape) (k : String Global) (s : Sym) → IsKept es sorts sizes nat → IsNew (table es sorts) s.name → string_bytes k ≡ s.name → length es < 2 ^ 32 → new ≡ insert_entry string_eq es k s → IsKept new sorts sizes nat × (table new sorts ≡ with_symbol (table es sorts) s)
-kept_symbol es new sorts sizes nat k s kept is_new own few is =
-    let last = entry_last (table es sorts) k s es new kept.keyed refl own (λ has. is_new.free (inl has)) is in
-    let more = symbol_last (table es sorts) k s es new sorts refl last in (
-      record {
-        keyed = keyed_more k s es new kept.keyed own few last;
-        sized = kept.sized;
-        few = kept.few;
-        apart = subst HasDistinctSorts (sym more) (apart_symbol (table es sorts) s kept.apart is_new);
-        lent = kept.lent;
-      },
-      more,
-    )
-
 -- the first of some names that is the one looked for
 position_at : (p : List ℕ → Bool) (ns : List (List ℕ)) (i : ℕ) → i < length ns → position_or_len p ns ≡ i → position p ns ≡ Some i
 position_at p ns i lt e = grind (arith, nat_tests)
@@ -207,56 +178,6 @@ none_yet xs q i s lt differs before k below =
     ⊎_elim (λ less. before k less)
     (λ more. let same : k ≡ i = omega (arith, more, below) in ap (λ (j : ℕ). bytes_eq q (get_or (map (λ (x : NamedSort). x.name) xs) j [])) same ∙ (ap (bytes_eq q) (name_at xs i s lt) ∙ differs))
     (cases_lt k i)
-
-module _ (es : List Entry) (sorts : List NamedSort) (sizes : List ℕ) (nat : Shape) (y : NamedSort) (size : ℕ) (kept : IsKept es sorts sizes nat) (new_sort : IsNew (table es sorts) y.name) (sized : size ≡ shape_size (default_sizes sorts) y.shape) (few : length sorts < 2 ^ 32) where
-  -- one sort more and one symbol
-  sort_and_one : (new : List Entry) (k : String Global) (s : Sym) → IsNew (table es sorts) s.name → y.name ≢ s.name → string_bytes k ≡ s.name → length es < 2 ^ 32 → new ≡ insert_entry string_eq es k s → IsKept new (sorts ++ y ∷ []) (sizes ++ size ∷ []) nat × (table new (sorts ++ y ∷ []) ≡ with_symbol (with_sort (table es sorts) y) s)
-  sort_and_one new k s new_s ne own room is =
-      kept_symbol es new (sorts ++ y ∷ []) (sizes ++ size ∷ []) nat k s (kept_sort es sorts sizes nat y size kept new_sort sized few)
-      (new_beside_sort (table es sorts) y s.name new_s ne) own room is
-
-  -- and one more
-  sort_and_two : (mid new : List Entry) (k l : String Global) (a b : Sym) → IsNew (table es sorts) a.name → IsNew (table es sorts) b.name → y.name ≢ a.name → y.name ≢ b.name → a.name ≢ b.name → string_bytes k ≡ a.name → string_bytes l ≡ b.name → length es + 1 < 2 ^ 32 → mid ≡ insert_entry string_eq es k a → new ≡ insert_entry string_eq mid l b → IsKept new (sorts ++ y ∷ []) (sizes ++ size ∷ []) nat × (table new (sorts ++ y ∷ []) ≡ with_symbol (with_symbol (with_sort (table es sorts) y) a) b)
-  sort_and_two mid new k l a b new_a new_b ne_a ne_b ne own_a own_b room is_mid is_new =
-      let first = sort_and_one mid k a new_a ne_a own_a (omega (arith, room)) is_mid in
-      let beside = new_beside_symbol (with_sort (table es sorts) y) a b.name (new_beside_sort (table es sorts) y b.name new_b ne_b) ne in
-      let longer : length (values_of mid) ≡ length (values_of es) + 1 = ap (λ (t : SymbolTable). length t.syms) first.1 ∙ length-append (values_of es) (a ∷ []) in
-      let was = length-map es (λ (e : Entry). e.1) in
-      let now = length-map mid (λ (e : Entry). e.1) in
-      let second = kept_symbol mid new (sorts ++ y ∷ []) (sizes ++ size ∷ []) nat l b first.0 (subst (λ (t : SymbolTable). IsNew t b.name) (sym first.1) beside) own_b
-      (omega (arith, room, longer, was, now)) is_new in
-      (second.0, second.1 ∙ ap (λ (t : SymbolTable). with_symbol t b) first.1)
-
--- the same of a table that is seen, and of lists that are what they should be
-module _ (t : SymbolTable) (es room : List Entry) (sorts sorts1 : List NamedSort) (sizes sizes1 : List ℕ) (nat : Shape) (y : NamedSort) (size : ℕ) (kept : IsKept es sorts sizes nat) (view : table es sorts ≡ t) (room_is : room ≡ es) (sorts_are : sorts1 ≡ sorts ++ y ∷ []) (sizes_are : sizes1 ≡ sizes ++ size ∷ []) (sized : size ≡ shape_size (default_sizes t.sorts) y.shape) (few : (length t.sorts < 2 ^ 32) × (length t.syms + 1 < 2 ^ 32)) where
-  carried : (new : List Entry) (f : SymbolTable → SymbolTable) → IsKept new (sorts ++ y ∷ []) (sizes ++ size ∷ []) nat × (table new (sorts ++ y ∷ []) ≡ f (table es sorts)) → IsKept new sorts1 sizes1 nat × (table new sorts1 ≡ f t)
-  carried new f r = (
-    subst (λ (xs : List NamedSort). IsKept new xs sizes1 nat) (sym sorts_are)
-        (subst (λ (ns : List ℕ). IsKept new (sorts ++ y ∷ []) ns nat) (sym sizes_are) r.0),
-    ap (table new) sorts_are ∙ (r.1 ∙ ap f view),
-  )
-
-  size_here : size ≡ shape_size (default_sizes sorts) y.shape
-  size_here = subst (λ (u : SymbolTable). size ≡ shape_size (default_sizes u.sorts) y.shape) (sym view) sized
-
-  few_here : (length sorts < 2 ^ 32) × (length (values_of es) + 1 < 2 ^ 32)
-  few_here = subst (λ (u : SymbolTable). (length u.sorts < 2 ^ 32) × (length u.syms + 1 < 2 ^ 32)) (sym view) few
-
-  pub one_declared : (new : List Entry) (k : String Global) (s : Sym) → IsNew t y.name × IsNew t s.name × (y.name ≢ s.name) → string_bytes k ≡ s.name → new ≡ insert_entry string_eq room k s → IsKept new sorts1 sizes1 nat × (table new sorts1 ≡ with_symbol (with_sort t y) s)
-  one_declared new k s free own is =
-      let here = subst (λ (u : SymbolTable). IsNew u y.name × IsNew u s.name) (sym view) (free.0, free.1) in
-      let count = length-map es (λ (e : Entry). e.1) in
-      carried new (λ u. with_symbol (with_sort u y) s)
-      (sort_and_one es sorts sizes nat y size kept here.0 size_here few_here.0 new k s here.1 free.2 own (omega (arith, few_here.1, count))
-      (is ∙ ap (λ (xs : List Entry). insert_entry string_eq xs k s) room_is))
-
-  pub two_declared : (mid new : List Entry) (k l : String Global) (a b : Sym) → IsNew t y.name × IsNew t a.name × IsNew t b.name → (y.name ≢ a.name) × (y.name ≢ b.name) × (a.name ≢ b.name) → (string_bytes k ≡ a.name) × (string_bytes l ≡ b.name) → mid ≡ insert_entry string_eq room k a → new ≡ insert_entry string_eq mid l b → IsKept new sorts1 sizes1 nat × (table new sorts1 ≡ with_symbol (with_symbol (with_sort t y) a) b)
-  two_declared mid new k l a b free apart own is_mid is_new =
-      let here = subst (λ (u : SymbolTable). IsNew u y.name × IsNew u a.name × IsNew u b.name) (sym view) free in
-      let count = length-map es (λ (e : Entry). e.1) in
-      carried new (λ u. with_symbol (with_symbol (with_sort u y) a) b)
-      (sort_and_two es sorts sizes nat y size kept here.0 size_here few_here.0 mid new k l a b here.1 here.2 apart.0 apart.1 apart.2 own.0 own.1
-      (omega (arith, few_here.1, count)) (is_mid ∙ ap (λ (xs : List Entry). insert_entry string_eq xs k a) room_is) is_new)
 
 -- a sum that stays at its last value is small where it is
 small_is : (r n : ℕ) → r ≡ min n (2 ^ 32 - 1) → IsTrue (leb r 64) ↔ (n ≤ 64)

@@ -41,7 +41,7 @@ IsPrefix-with_list a name nil cons item = record {
   sorts = refl;
 }
 
-slice_get-append : {X : Type 0} (xs ys : List X) (i : ℕ) (x : X) → slice_get xs i ≡ Some x → slice_get (xs ++ ys) i ≡ Some x
+pub slice_get-append : {X : Type 0} (xs ys : List X) (i : ℕ) (x : X) → slice_get xs i ≡ Some x → slice_get (xs ++ ys) i ≡ Some x
 slice_get-append [] ys i x e = absurd (cc)
 slice_get-append (y ∷ xs) ys zero x e = e
 slice_get-append (y ∷ xs) ys (suc i) x e = slice_get-append xs ys i x e
@@ -51,7 +51,7 @@ pub symbol_at-IsPrefix : (a b : SymbolTable) (id : SymId) (s : Sym) → symbol_a
 symbol_at-IsPrefix a b id s e p =
     ap (λ (xs : List Sym). slice_get xs id.0) p.syms ∙ slice_get-append a.syms p.more_syms id.0 s e
 
-below_more : (m n : ℕ) → m ≤ n → (sort : Sort) → IsSortBelow m sort → IsSortBelow n sort
+pub below_more : (m n : ℕ) → m ≤ n → (sort : Sort) → IsSortBelow m sort → IsSortBelow n sort
 below_more m n le Nat h = tt
 below_more m n le (Named number) h = omega arith
 

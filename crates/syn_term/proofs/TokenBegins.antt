@@ -1,7 +1,6 @@
 -- A token that stands before a byte that would not lengthen it is what begins at its place.
 use Rattle.std.proofs.Common.{◌≡◌, ℕ, zero, suc, ◌+◌, ◌<◌, ◌≤◌, ◌^◌, ◌&&◌, Bool, true, false, List, [], ◌∷◌, ◌++◌, cond, decimal, nat_eq, nat_lt, length, get_or, take, drop, refl, sym, ◌∙◌, ap, subst, arith, All, Contains, ⊎_elim, append_assoc}
 use Rattle.std.specs.Char.{is_ascii_digit}
-use Rattle.std.specs.Str.Lossy.{utf8_valid_len}
 use Rattle.std.proofs.lemmas.List.{length-append, take_at, drop_at, get_or-drop, drop-drop}
 use Rattle.std.proofs.lemmas.List.Elements.{All-from_recursion, All-contains}
 use Rattle.std.proofs.lemmas.Fmt.{decimal_digit, first_decimal, length-decimal-le}
@@ -9,7 +8,7 @@ use Rattle.std.proofs.lemmas.Bool.Decides.{nat_tests}
 use Rattle.syn_term.specs.declared.tokens.TokenKind.{TokenKind}
 use Rattle.syn_term.specs.declared.tokens.TokenKind.TheVariants as kind
 use Rattle.syn_term.specs.Names.{IsName, IsTag, IsNumber, IsSkolemName, is_name_byte}
-use Rattle.syn_term.specs.Tokens.{gap, over, bad, token, joined, signs, IsDigits, IsWrittenSort, IsRowVariable, IsToken, starts, token_at, some_token, comment, is_blank, is_single_sign, at_most, digits, number_len, counted_len, sort_len, row_len, stop_len, tag_len, free_name_len, skolem_len, sign_len, name_len, run_len, front_chars}
+use Rattle.syn_term.specs.Tokens.{gap, over, bad, token, joined, signs, IsDigits, IsWrittenSort, IsRowVariable, IsToken, starts, token_at, some_token, comment, comment_len, is_blank, is_single_sign, at_most, digits, number_len, counted_len, sort_len, row_len, stop_len, tag_len, free_name_len, skolem_len, sign_len, name_len, run_len, front_chars}
 use Rattle.syn_term.proofs.Passes.{above}
 use Rattle.syn_term.proofs.NameLaws.{name_nonempty, skolem_is}
 use Rattle.syn_term.proofs.WordRuns.{IsWord, name_is_word, word_nonempty, in_limit, run_at_mark}
@@ -126,7 +125,7 @@ no_sort : (rest : List ℕ) → nat_eq (get_or rest 0 0) 58 ≡ false → sort_l
 unfolding sort_len
 no_sort rest h = ap (λ (z : Bool). cond z (joined 1 (free_name_len (drop 1 rest))) 0) h
 
-row_of : (number rest : List ℕ) (s : ℕ) → IsNumber number → is_ascii_digit (get_or rest 0 0) ≡ false → sort_len rest ≡ s → row_len (63 ∷ (number ++ rest)) ≡ 1 + (length number + s)
+pub row_of : (number rest : List ℕ) (s : ℕ) → IsNumber number → is_ascii_digit (get_or rest 0 0) ≡ false → sort_len rest ≡ s → row_len (63 ∷ (number ++ rest)) ≡ 1 + (length number + s)
 unfolding row_len
 row_of number rest s n ends e =
     let c : counted_len (number ++ rest) ≡ length number = counted_is number rest n ends in
@@ -169,7 +168,7 @@ tag_some : (tag : List ℕ) → IsTag tag → 0 < length tag
 tag_some tag is =
     ⊎_elim (λ e. subst (λ (z : List ℕ). 0 < length z) (sym e) (omega arith)) (λ more. ⊎_elim (λ e. subst (λ (z : List ℕ). 0 < length z) (sym e) (omega arith)) (λ named. name_nonempty tag named) more) is
 
-skolem_whole : (tag number rest : List ℕ) → IsTag tag → IsNumber number → is_ascii_digit (get_or rest 0 0) ≡ false → skolem_len (33 ∷ (tag ++ 46 ∷ (number ++ rest))) ≡ 1 + (length tag + (1 + length number))
+pub skolem_whole : (tag number rest : List ℕ) → IsTag tag → IsNumber number → is_ascii_digit (get_or rest 0 0) ≡ false → skolem_len (33 ∷ (tag ++ 46 ∷ (number ++ rest))) ≡ 1 + (length tag + (1 + length number))
 skolem_whole tag number rest t n ends =
     skolem_of tag (46 ∷ (number ++ rest)) (1 + length number) (tag_some tag t)
     (tag_is tag (46 ∷ (number ++ rest)) t (run_at_mark (46 ∷ (number ++ rest)) 46 refl (omega arith) refl))
@@ -179,10 +178,10 @@ skolem_whole tag number rest t n ends =
 begins_there : (bs : List ℕ) (b : ℕ) → get_or bs 0 0 ≡ b → 0 < length bs → is_blank b ≡ false → nat_eq b 35 ≡ false → starts bs ≡ token_at bs b
 unfolding starts
 begins_there bs b e some blank mark =
-    ap (λ (z : Bool). cond z over (cond (is_blank (get_or bs 0 0)) gap (cond (nat_eq (get_or bs 0 0) 35) (comment bs (utf8_valid_len bs)) (token_at bs (get_or bs 0 0))))) (above (length bs) some)
-    ∙ (ap (λ (z : ℕ). cond (is_blank z) gap (cond (nat_eq z 35) (comment bs (utf8_valid_len bs)) (token_at bs z))) e
-    ∙ (ap (λ (z : Bool). cond z gap (cond (nat_eq b 35) (comment bs (utf8_valid_len bs)) (token_at bs b))) blank
-    ∙ ap (λ (z : Bool). cond z (comment bs (utf8_valid_len bs)) (token_at bs b)) mark))
+    ap (λ (z : Bool). cond z over (cond (is_blank (get_or bs 0 0)) gap (cond (nat_eq (get_or bs 0 0) 35) (comment bs (comment_len bs)) (token_at bs (get_or bs 0 0))))) (above (length bs) some)
+    ∙ (ap (λ (z : ℕ). cond (is_blank z) gap (cond (nat_eq z 35) (comment bs (comment_len bs)) (token_at bs z))) e
+    ∙ (ap (λ (z : Bool). cond z gap (cond (nat_eq b 35) (comment bs (comment_len bs)) (token_at bs b))) blank
+    ∙ ap (λ (z : Bool). cond z (comment bs (comment_len bs)) (token_at bs b)) mark))
 
 some_is : (k : TokenKind) (l n : ℕ) → l ≡ n → 0 < n → some_token k l ≡ token k n
 some_is k l n e some = ap (some_token k) e ∙ ap (λ (z : Bool). cond z (bad 0) (token k n)) (above n some)

@@ -1,14 +1,14 @@
 -- Where a token begins, it is one of its kind, and none at that place is longer.
-use Rattle.std.proofs.Common.{◌≡◌, ℕ, ◌<◌, ◌≤◌, ◌&&◌, Bool, true, false, List, cond, nat_eq, length, get_or, take, refl, sym, ◌∙◌, ap, subst, arith, ⊎_elim}
+use Rattle.std.proofs.Common.{◌≡◌, ℕ, ◌<◌, ◌≤◌, ◌⊎◌, inl, inr, ◌&&◌, Bool, true, false, List, cond, nat_eq, length, get_or, take, drop, refl, sym, ◌∙◌, ap, subst, arith, ⊎_elim}
 use Rattle.std.specs.Char.{is_ascii_digit, is_ascii_alphabetic}
-use Rattle.std.specs.Str.Lossy.{utf8_valid_len}
 use Rattle.std.proofs.lemmas.List.{length-take-le, get_or-take}
 use Rattle.std.proofs.lemmas.Bool.{cases_lt}
 use Rattle.std.proofs.lemmas.Bool.Decides.{nat_tests}
 use Rattle.syn_term.specs.declared.tokens.TokenKind.{TokenKind}
 use Rattle.syn_term.specs.declared.tokens.TokenKind.TheVariants as kind
-use Rattle.syn_term.specs.Tokens.{gap, over, bad, token, IsToken, IsLongest, CutsWord, starts, token_at, some_token, comment, is_blank, number_len, row_len, skolem_len, sign_len, sign_of, is_single_sign, name_len}
+use Rattle.syn_term.specs.Tokens.{gap, over, bad, token, IsToken, IsLongest, IsRowVariable, IsCutRow, IsWholeToken, run_len, front_chars, starts, token_at, some_token, comment, comment_len, is_blank, number_len, row_len, skolem_len, sign_len, sign_of, is_single_sign, name_len}
 use Rattle.syn_term.proofs.Passes.{some_of, eq_of, eq_is, above}
+use Rattle.syn_term.proofs.Continuing.{none_counted}
 use Rattle.syn_term.proofs.BeginsCases.{gap_token, over_token, bad_token, token_kind, token_length}
 use Rattle.syn_term.proofs.WordRuns.{IsWord, name_is_word, word_name, word_first, word_nonempty}
 use Rattle.syn_term.proofs.ReservedWords.{reserved_word}
@@ -27,17 +27,17 @@ no_comment rest v k n e =
     ] e
 
 -- a token begins with a byte that is there, and that byte tells its kind
-begun : (rest : List ℕ) (k : TokenKind) (n : ℕ) → starts rest ≡ token k n → (0 < length rest) × (token_at rest (get_or rest 0 0) ≡ token k n)
+pub begun : (rest : List ℕ) (k : TokenKind) (n : ℕ) → starts rest ≡ token k n → (0 < length rest) × (token_at rest (get_or rest 0 0) ≡ token k n)
 unfolding starts
 begun rest k n e =
-    elim (nat_eq (length rest) 0) as (λ z. nat_eq (length rest) 0 ≡ z → cond z over (cond (is_blank (get_or rest 0 0)) gap (cond (nat_eq (get_or rest 0 0) 35) (comment rest (utf8_valid_len rest)) (token_at rest (get_or rest 0 0)))) ≡ token k n → (0 < length rest) × (token_at rest (get_or rest 0 0) ≡ token k n)) [
+    elim (nat_eq (length rest) 0) as (λ z. nat_eq (length rest) 0 ≡ z → cond z over (cond (is_blank (get_or rest 0 0)) gap (cond (nat_eq (get_or rest 0 0) 35) (comment rest (comment_len rest)) (token_at rest (get_or rest 0 0)))) ≡ token k n → (0 < length rest) × (token_at rest (get_or rest 0 0) ≡ token k n)) [
       | true ↦ (λ t h. absurd (over_token k n h))
       | false ↦ (λ t h. (
         some_of (length rest) t,
-        elim (is_blank (get_or rest 0 0)) as (λ z. cond z gap (cond (nat_eq (get_or rest 0 0) 35) (comment rest (utf8_valid_len rest)) (token_at rest (get_or rest 0 0))) ≡ token k n → token_at rest (get_or rest 0 0) ≡ token k n) [
+        elim (is_blank (get_or rest 0 0)) as (λ z. cond z gap (cond (nat_eq (get_or rest 0 0) 35) (comment rest (comment_len rest)) (token_at rest (get_or rest 0 0))) ≡ token k n → token_at rest (get_or rest 0 0) ≡ token k n) [
           | true ↦ (λ i. absurd (gap_token k n i))
-          | false ↦ (λ i. elim (nat_eq (get_or rest 0 0) 35) as (λ z. cond z (comment rest (utf8_valid_len rest)) (token_at rest (get_or rest 0 0)) ≡ token k n → token_at rest (get_or rest 0 0) ≡ token k n) [
-            | true ↦ (λ j. absurd (no_comment rest (utf8_valid_len rest) k n j))
+          | false ↦ (λ i. elim (nat_eq (get_or rest 0 0) 35) as (λ z. cond z (comment rest (comment_len rest)) (token_at rest (get_or rest 0 0)) ≡ token k n → token_at rest (get_or rest 0 0) ≡ token k n) [
+            | true ↦ (λ j. absurd (no_comment rest (comment_len rest) k n j))
             | false ↦ (λ j. j)
           ] i)
         ] h,
@@ -45,7 +45,7 @@ begun rest k n e =
     ] refl e
 
 -- what some_token tells
-some_parts : (k j : TokenKind) (l n : ℕ) → some_token k l ≡ token j n → (k ≡ j) × (l ≡ n) × (0 < l)
+pub some_parts : (k j : TokenKind) (l n : ℕ) → some_token k l ≡ token j n → (k ≡ j) × (l ≡ n) × (0 < l)
 some_parts k j l n e =
     elim (nat_eq l 0) as (λ z. nat_eq l 0 ≡ z → cond z (bad 0) (token k l) ≡ token j n → (k ≡ j) × (l ≡ n) × (0 < l)) [
       | true ↦ (λ t h. absurd (bad_token j 0 n h))
@@ -202,11 +202,12 @@ number_none rest j n m e lt le h =
     let most = front_number rest m le h in
     omega (arith, p.1, all, most)
 
-row_cuts : (rest : List ℕ) (j : TokenKind) (n m : ℕ) → token_at rest (get_or rest 0 0) ≡ token j n → n < m → m ≤ length rest → IsToken kind.RowVar (take m rest) → CutsWord rest m
-row_cuts rest j n m e lt le h =
-    let first : get_or rest 0 0 ≡ 63 = row_first rest m le h in
+row_none : (rest : List ℕ) (j : TokenKind) (n m : ℕ) → token_at rest (get_or rest 0 0) ≡ token j n → n < m → m ≤ length rest → (r : IsRowVariable (take m rest)) → (0 < length r.sort → run_len (front_chars (drop m rest)) ≡ 0) → ⊥
+row_none rest j n m e lt le r ends =
+    let first : get_or rest 0 0 ≡ 63 = row_first rest m le r in
     let p = some_parts kind.RowVar j (row_len rest) n (sym (ap (token_at rest) first ∙ at_row rest) ∙ e) in
-    ⊎_elim (λ most. absurd (omega (arith, p.1))) (λ cuts. cuts) (row_longest rest m le h p.2)
+    let most : m ≤ row_len rest = row_longest rest m le r ends p.2 in
+    omega (arith, p.1, most)
 
 skolem_none : (rest : List ℕ) (j : TokenKind) (n m : ℕ) → token_at rest (get_or rest 0 0) ≡ token j n → n < m → m ≤ length rest → IsToken kind.Skolem (take m rest) → ⊥
 skolem_none rest j n m e lt le h =
@@ -224,14 +225,22 @@ sign_none rest j n m e lt le h =
     let size : sign_len rest ≡ n = token_length kind.Sign j (sign_len rest) n (sym at ∙ e) in
     omega (arith, size, s.1)
 
-none_longer : (rest : List ℕ) (j : TokenKind) (n : ℕ) → token_at rest (get_or rest 0 0) ≡ token j n → IsLongest rest n
-none_longer rest j n e kind.Name m lt le h =
-    absurd (⊎_elim (λ named. name_none rest j n m e lt le (name_is_word (take m rest) named)) (λ known. name_none rest j n m e lt le (reserved_word (take m rest) known).0) h)
-none_longer rest j n e kind.Number m lt le h = absurd (number_none rest j n m e lt le h)
-none_longer rest j n e kind.RowVar m lt le h = (refl, row_cuts rest j n m e lt le h)
-none_longer rest j n e kind.Skolem m lt le h = absurd (skolem_none rest j n m e lt le h)
-none_longer rest j n e kind.Sign m lt le h = absurd (sign_none rest j n m e lt le h)
+-- a row variable that is not cut off has a sort that no word goes on from
+row_uncut : (rest : List ℕ) (m : ℕ) (r : IsRowVariable (take m rest)) → (IsCutRow rest m → ⊥) → 0 < length r.sort → run_len (front_chars (drop m rest)) ≡ 0
+row_uncut rest m r whole some = none_counted (front_chars (drop m rest)) (λ on. whole (record { row = r; cut = inr (some, on) }))
 
--- and it is the longest there
+none_longer : (rest : List ℕ) (j : TokenKind) (n : ℕ) → token_at rest (get_or rest 0 0) ≡ token j n → (k : TokenKind) (m : ℕ) → n < m → IsWholeToken k rest m → ⊥
+none_longer rest j n e kind.Name m lt h =
+    ⊎_elim (λ named. name_none rest j n m e lt h.within (name_is_word (take m rest) named)) (λ known. name_none rest j n m e lt h.within (reserved_word (take m rest) known).0) h.token
+none_longer rest j n e kind.Number m lt h = number_none rest j n m e lt h.within h.token
+none_longer rest j n e kind.RowVar m lt h = row_none rest j n m e lt h.within h.token (row_uncut rest m h.token h.whole)
+none_longer rest j n e kind.Skolem m lt h = skolem_none rest j n m e lt h.within h.token
+none_longer rest j n e kind.Sign m lt h = sign_none rest j n m e lt h.within h.token
+
+-- and no longer front is a whole token
 pub is_longest : (rest : List ℕ) (k : TokenKind) (n : ℕ) → starts rest ≡ token k n → IsLongest rest n
-is_longest rest k n e = none_longer rest k n (begun rest k n e).1
+is_longest rest k n e j m h =
+    ⊎_elim (λ le. le) (λ lt. absurd (none_longer rest k n (begun rest k n e).1 j m lt h)) (le_or_lt m n)
+  where
+    le_or_lt : (m n : ℕ) → (m ≤ n) ⊎ (n < m)
+    le_or_lt m n = ⊎_elim (λ lt. inr lt) (λ ge. inl ge) (cases_lt n m)

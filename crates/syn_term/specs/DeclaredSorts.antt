@@ -1,5 +1,6 @@
--- The sorts of a table: their names, how their values are built, and what it takes to declare one.
-use Rattle.std.specs.Prelude.{◌≡◌, ◌≢◌, ℕ, ◌+◌, ◌≤◌, List, [], ◌∷◌, ◌++◌, Option, Some, All, Contains, codes, fold, if◌then◌else◌, length, map, position, slice_get}
+-- In public contracts: the sorts of a table, their names, how their values are built, what it takes to declare one, and
+-- what every table is.
+use Rattle.std.specs.Prelude.{◌≡◌, ◌≢◌, ℕ, ◌+◌, ◌≤◌, List, [], ◌∷◌, ◌++◌, Option, Some, IfSome, All, Contains, codes, fold, if◌then◌else◌, length, map, position, slice_get}
 use Rattle.std.specs.List.{sum_by}
 use Rattle.std.specs.Option.{option_map, unwrap_or}
 use Rattle.std.specs.Str.{bytes_eq}
@@ -8,11 +9,12 @@ use Rattle.syn_term.specs.declared.sorts.Sort.TheVariants.{Nat, Named}
 use Rattle.syn_term.specs.declared.sorts.Shape.{Shape}
 use Rattle.syn_term.specs.declared.sorts.Shape.TheVariants as shape
 use Rattle.syn_term.specs.declared.sorts.NamedSort.{NamedSort}
+use Rattle.syn_term.specs.declared.sorts.Kind.{Kind}
 use Rattle.syn_term.specs.declared.sorts.Kind.TheVariants.{Nil, Cons, Tuple}
 use Rattle.syn_term.specs.declared.sorts.Sym.{Sym}
 use Rattle.syn_term.specs.declared.sorts.SymId.{SymId}
 use Rattle.syn_term.specs.Names.{IsName}
-use Rattle.syn_term.specs.Symbols.{SymbolTable, IsSort, IsTaken, names_of, with_symbol}
+use Rattle.syn_term.specs.Symbols.{SymbolTable, FitsName, FitsResult, HasDistinctNames, IsSort, IsSortBelow, IsTaken, names_of, succ_symbol, symbol_at, with_symbol, zero_symbol}
 
 -- The name of the sort: `nat` for the natural numbers, and for a declared sort its own; none where it isn't there.
 abbrev pub name_of_sort : SymbolTable → Sort → Option (List ℕ)
@@ -111,3 +113,32 @@ pub record MayAddTuple (table : SymbolTable) (name make : List ℕ) (parts : Lis
   pub there : All (IsSort table) parts
   pub few : (2 ≤ length parts) × (length parts ≤ 4)
   pub small : 1 + sum_by (default_size table) parts ≤ 64
+
+-- The symbol with this number makes values of the sort: it is in the table, with this kind and these arguments.
+pub record IsMaker (table : SymbolTable) (id : SymId) (kind : Kind) (args : List Sort) (sort : Sort) : Type 0 where
+  pub name : List ℕ
+  pub is : symbol_at table id ≡ Some (record { name = name; kind = kind; args = args; result = Some sort })
+
+-- How the values of the sort with this number are built, from the sorts before it: a list sort has a symbol for the empty
+-- list and one that puts an item before a list, and a tuple sort one that makes a tuple of two to four parts.
+abbrev pub IsShapeAt : SymbolTable → ℕ → Shape → Type 0
+IsShapeAt table number shape.Nat = ⊥
+IsShapeAt table number (shape.List nil cons item) =
+    IsSortBelow number item × IsMaker table nil Nil [] (Named number) × IsMaker table cons Cons (item ∷ Named number ∷ []) (Named number)
+IsShapeAt table number (shape.Tuple make parts) =
+    All (IsSortBelow number) parts × (2 ≤ length parts) × (length parts ≤ 4) × IsMaker table make Tuple parts (Named number)
+
+-- What every table of symbols is. It begins with `0` and `s`, and the other symbols and the sorts have names, a Skolem
+-- symbol one of its own form. A result is there exactly where a symbol's kind has one, and the sorts of arguments and
+-- results are the table's. Each declared sort is built from sorts before it. No name is there twice.
+pub record IsTable (table : SymbolTable) : Type 0 where
+  pub others : List Sym
+  pub begins : table.syms ≡ zero_symbol ∷ succ_symbol ∷ others
+  pub named : All (λ sym. FitsName sym.kind sym.name) others
+  pub named_sorts : All (λ sort. IsName sort.name) table.sorts
+  pub valued : All (λ sym. FitsResult sym.kind sym.result) table.syms
+  pub args : All (λ sym. All (IsSort table) sym.args) table.syms
+  pub results : All (λ sym. IfSome sym.result (IsSort table)) table.syms
+  pub shapes : (number : ℕ) (sort : NamedSort) → slice_get table.sorts number ≡ Some sort → IsShapeAt table number sort.shape
+  pub symbols : HasDistinctNames table
+  pub sorts : HasDistinctSorts table

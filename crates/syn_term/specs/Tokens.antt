@@ -1,6 +1,6 @@
 -- The grammar of tokens: which bytes are a token of which kind, what begins at a place of a line, and which tokens a line
 -- is made of.
-use Rattle.std.specs.Prelude.{◌≡◌, ℕ, ◌+◌, ◌<◌, ◌≤◌, ◌^◌, ◌⊎◌, Bool, cond, ◌&&◌, ◌||◌, List, [], ◌∷◌, ◌++◌, All, Contains, codes, decimal, length, get_or, take, drop, nat_eq, nat_lt}
+use Rattle.std.specs.Prelude.{◌≡◌, ℕ, ◌+◌, ◌<◌, ◌≤◌, ◌^◌, ◌⊎◌, Bool, IsTrue, cond, not, ◌&&◌, ◌||◌, List, [], ◌∷◌, ◌++◌, All, Contains, codes, decimal, length, get_or, take, drop, nat_eq, nat_lt}
 use Rattle.std.specs.Char.{encode_utf8, is_ascii_digit}
 use Rattle.std.specs.Str.{byte, chars, bytes_eq}
 use Rattle.std.specs.Str.Lossy.{utf8_valid_len}
@@ -39,13 +39,66 @@ IsToken kind.RowVar bytes = IsRowVariable bytes
 IsToken kind.Skolem bytes = IsSkolemName bytes
 IsToken kind.Sign bytes = Contains signs bytes
 
+-- The characters that the bytes begin with: those of their longest front that is UTF-8.
+abbrev pub front_chars : List ℕ → List ℕ
+front_chars bytes = chars (take (utf8_valid_len bytes) bytes)
+
+-- The first character is there, and may continue a name.
+abbrev pub Continues : List ℕ → Type 0
+Continues [] = ⊥
+Continues (c ∷ cs) = IsTrue (is_xid_continue c)
+
+-- Behind the first m bytes stands a character that may continue a name.
+abbrev pub WordGoesOn : List ℕ → ℕ → Type 0
+WordGoesOn rest m = Continues (front_chars (drop m rest))
+
+-- Behind the first m bytes stands a digit.
+abbrev pub DigitGoesOn : List ℕ → ℕ → Type 0
+DigitGoesOn rest m = IsTrue (is_ascii_digit (get_or (drop m rest) 0 0))
+
+-- The first m bytes are a row variable that is cut off in its number, where it has no sort, or else in its sort.
+pub record IsCutRow (rest : List ℕ) (m : ℕ) : Type 0 where
+  pub row : IsRowVariable (take m rest)
+  pub cut : ((row.sort ≡ []) × DigitGoesOn rest m) ⊎ ((0 < length row.sort) × WordGoesOn rest m)
+
+-- The first m bytes, a token of the kind, are cut off in the middle of a word or a number: `na` of `nat`, `12` of `123`,
+-- `?1:na` of `?1:nat`, `!gap.1` of `!gap.12`.
+abbrev pub IsCutOff : TokenKind → List ℕ → ℕ → Type 0
+IsCutOff kind.Name rest m = WordGoesOn rest m
+IsCutOff kind.Number rest m = DigitGoesOn rest m
+IsCutOff kind.RowVar rest m = IsCutRow rest m
+IsCutOff kind.Skolem rest m = DigitGoesOn rest m
+IsCutOff kind.Sign rest m = ⊥
+
+-- The first m bytes are a token of the kind, and it is not cut off.
+pub record IsWholeToken (k : TokenKind) (rest : List ℕ) (m : ℕ) : Type 0 where
+  pub within : m ≤ length rest
+  pub token : IsToken k (take m rest)
+  pub whole : ¬ (IsCutOff k rest m)
+
+-- No front of more than n bytes is a whole token of any kind.
+abbrev pub IsLongest : List ℕ → ℕ → Type 0
+IsLongest rest n = (k : TokenKind) (m : ℕ) → IsWholeToken k rest m → m ≤ n
+
+-- Space, tab and carriage return.
+abbrev pub is_blank : ℕ → Bool
+is_blank b = nat_eq b 32 || (nat_eq b 9 || nat_eq b 13)
+
+-- Neither a blank nor a comment begins here, and no front is a whole token of any kind.
+pub record BeginsNothing (rest : List ℕ) : Type 0 where
+  pub no_blank : ¬ (IsTrue (is_blank (get_or rest 0 0)))
+  pub no_comment : ¬ (get_or rest 0 0 ≡ byte "#")
+  pub no_token : (k : TokenKind) (m : ℕ) → ¬ (IsWholeToken k rest m)
+
+-- The scanner's own account of what begins at a place, `starts`: it tells kinds by the first byte and lengths by counting.
+
 -- What begins at a place: a blank (`gap`); nothing more, or a comment up to the end (`over`); a token of a kind, which has so
 -- many bytes; or nothing, and then the first byte that begins nothing stands so many bytes further on (`bad`).
-pub data Begins : Type 0 where
-  gap : Begins
-  over : Begins
-  bad : ℕ → Begins
-  token : TokenKind → ℕ → Begins
+pub data Start : Type 0 where
+  gap : Start
+  over : Start
+  bad : ℕ → Start
+  token : TokenKind → ℕ → Start
 
 -- A length within the limit; a longer run begins no token, which the length 0 says.
 abbrev pub at_most : ℕ → ℕ → ℕ
@@ -60,10 +113,6 @@ run_len (c ∷ cs) = cond (is_xid_continue c) (length (encode_utf8 c) + run_len 
 abbrev pub word_len : List ℕ → ℕ
 word_len [] = 0
 word_len (c ∷ cs) = cond (is_xid_start c) (run_len (c ∷ cs)) 0
-
--- The characters that the bytes begin with: those of their longest front that is UTF-8.
-abbrev pub front_chars : List ℕ → List ℕ
-front_chars bytes = chars (take (utf8_valid_len bytes) bytes)
 
 -- The length of the name that begins here, a reserved word or not. A longer run than 64 bytes is none.
 unfoldable pub name_len : List ℕ → ℕ
@@ -130,43 +179,42 @@ unfoldable pub sign_len : List ℕ → ℕ
 sign_len rest = sign_of (get_or rest 0 0) (get_or rest 1 0) (get_or rest 2 0)
 
 -- A token of this kind and length, or nothing where the length is 0.
-abbrev pub some_token : TokenKind → ℕ → Begins
+abbrev pub some_token : TokenKind → ℕ → Start
 some_token k n = cond (nat_eq n 0) (bad 0) (token k n)
 
 -- The token whose first byte is b.
-unfoldable pub token_at : List ℕ → ℕ → Begins
+unfoldable pub token_at : List ℕ → ℕ → Start
 token_at rest b =
     cond (is_ascii_digit b) (some_token kind.Number (number_len rest))
     (cond (nat_eq b (byte "?")) (some_token kind.RowVar (row_len rest))
     (cond (nat_eq b (byte "!")) (some_token kind.Skolem (skolem_len rest))
     (cond (nat_eq (sign_len rest) 0) (some_token kind.Name (name_len rest)) (token kind.Sign (sign_len rest)))))
 
--- Space, tab and carriage return.
-abbrev pub is_blank : ℕ → Bool
-is_blank b = nat_eq b 32 || (nat_eq b 9 || nat_eq b 13)
+-- Any byte but a line feed.
+abbrev pub is_in_line : ℕ → Bool
+is_in_line b = not (nat_eq b 10)
 
--- A comment of n bytes: it goes up to the end of the line, or ends before a byte that is no part of a text, which begins
--- nothing.
-abbrev pub comment : List ℕ → ℕ → Begins
+-- How many bytes stand before the first line feed, or up to the end.
+abbrev pub line_len : List ℕ → ℕ
+line_len = prefix_len is_in_line
+
+-- The bytes of a comment: the longest front that is UTF-8 and has no line feed.
+unfoldable pub comment_len : List ℕ → ℕ
+comment_len rest = utf8_valid_len (take (line_len rest) rest)
+
+-- A comment of n bytes: it goes up to the end of the line, or ends before a line feed or a byte that is no part of a text,
+-- which begins nothing.
+abbrev pub comment : List ℕ → ℕ → Start
 comment rest n = cond (nat_eq n (length rest)) over (bad n)
 
 -- What begins where the rest of the line begins: a blank; nothing more but a comment; a token; or nothing, and then the
 -- first byte that begins nothing stands so many bytes further on.
-unfoldable pub starts : List ℕ → Begins
+unfoldable pub starts : List ℕ → Start
 starts rest =
     cond (nat_eq (length rest) 0) over
     (cond (is_blank (get_or rest 0 0)) gap
-    (cond (nat_eq (get_or rest 0 0) (byte "#")) (comment rest (utf8_valid_len rest))
+    (cond (nat_eq (get_or rest 0 0) (byte "#")) (comment rest (comment_len rest))
     (token_at rest (get_or rest 0 0))))
-
--- A front of so many bytes ends in the middle of a word: the next character would go on with it.
-abbrev pub CutsWord : List ℕ → ℕ → Type 0
-CutsWord rest n = 0 < run_len (front_chars (drop n rest))
-
--- No front of the rest that is longer than n bytes is a token of any kind, but a row variable whose sort is cut off in the
--- middle of a word, as `?1:na` is in `?1:nat`.
-abbrev pub IsLongest : List ℕ → ℕ → Type 0
-IsLongest rest n = (k : TokenKind) (m : ℕ) → n < m → m ≤ length rest → IsToken k (take m rest) → (k ≡ kind.RowVar) × CutsWord rest m
 
 -- A token by itself: its kind and its bytes.
 pub record Word : Type 0 where

@@ -4,17 +4,17 @@ ghost use Rattle.std.specs.Prelude.{◌≡◌, ◌≢◌, ◌↔◌, ◌+◌, �
 ghost use Rattle.std.specs.List.{sum_by};
 ghost use Rattle.std.specs.Option.{option_copied};
 ghost use Rattle.std.specs.Str.{bytes_eq};
-ghost use Rattle.std.specs.String.{string_eq};
-ghost use Rattle.indexmap.specs.IndexMap.{insert_entry, spare, IsUnique};
+ghost use Rattle.indexmap.specs.IndexMap.{spare};
+ghost use Rattle.syn_term.specs.declared.sorts.Kind.TheVariants.{Cons, Nil};
+ghost use Rattle.syn_term.specs.declared.sorts.Shape.TheVariants as shapes;
 ghost use Rattle.syn_term.specs.Names.{IsName};
-ghost use Rattle.syn_term.specs.Symbols.{IsTaken, IsPrefix, HasDistinctNames, with_symbol};
-ghost use Rattle.syn_term.specs.DeclaredSorts.{HasDistinctSorts, MayAddList, MayAddTuple, default_size, default_sizes, name_of_sort, next_sort, next_symbol, shape_of_sort, shape_size, size_in, sort_named, with_list, with_sort, with_tuple};
-ghost use Rattle.syn_term.specs.SymbolKeys.{IsNew};
+ghost use Rattle.syn_term.specs.Symbols.{IsTaken, IsPrefix, with_symbol};
+ghost use Rattle.syn_term.specs.DeclaredSorts.{IsTable, MayAddList, MayAddTuple, cons_symbol, default_size, default_sizes, name_of_sort, list_sort, next_sort, next_symbol, nil_symbol, shape_of_sort, shape_size, size_in, sort_named, tuple_sort, with_list, with_sort, with_tuple};
 
 use crate::memory::NoMemory;
 use crate::names::is_name;
 use crate::sorts::{Kind, NamedSort, Shape, Sort, Sym, SymId};
-use crate::symbols::{Symbols, are_sorts, is_sort};
+use crate::symbols::{Symbols, are_sorts, is_sort, make_sym, put};
 use crate::text::Text;
 use indexmap::IndexMap;
 use sqlite_items::{Items, at};
@@ -24,6 +24,11 @@ const NAT: &str = "nat";
 
 // The most nodes that the default term of a tuple sort may have.
 const MOST_NODES: u32 = 64;
+
+// The least and the greatest number of parts of a tuple.
+const LEAST_PARTS: usize = 2;
+
+const MOST_PARTS: usize = 4;
 
 // The number of nodes of the sort's default term.
 fn size_of(sizes: &[u32], sort: Sort) -> u32
@@ -52,7 +57,7 @@ fn tuple_size(sizes: &[u32], parts: &[Sort]) -> u32
 fn are_few(parts: &[Sort]) -> bool
     ensures { IsTrue result ↔ ((2 ≤ length parts.now) × (length parts.now ≤ 4)) }
 {
-    2 <= parts.len() && parts.len() <= 4
+    LEAST_PARTS <= parts.len() && parts.len() <= MOST_PARTS
 }
 
 fn differ(name: &str, nil: &str, cons: &str) -> bool
@@ -66,29 +71,62 @@ fn keyed(
     alloc: Global,
     name: &str,
     kind: Kind,
-    args: Items<Sort>,
+    args: &[Sort],
     sort: Sort,
 ) -> Result<(String, Sym), NoMemory>
-    ensures { IfOk result (λ made. (string_bytes made.0 ≡ name.now) × (made.1 ≡ record { name = name.now; kind = kind; args = args; result = Some sort })) }
+    ensures { IfOk result (λ made. (string_bytes made.0 ≡ name.now) × (made.1 ≡ record { name = name.now; kind = kind; args = args.now; result = Some sort })) }
 {
     let key = String::from_str(alloc, name)?;
-    let sym = Sym {
-        name: Text::from_str(alloc, name)?,
-        kind,
-        args,
-        result: Some(sort),
-    };
-    Ok((key, sym))
+    match make_sym(alloc, name, kind, args, Some(sort)) {
+        Ok(sym) => Ok((key, sym)),
+        Err(error) => {
+            drop(key);
+            Err(error)
+        }
+    }
 }
 
-// Puts the symbol under the key, where there is room: this takes no memory.
-fn put(by_name: &mut IndexMap<String, Sym>, key: String, sym: Sym)
-    requires { 0 < spare by_name.old }
-    ensures entries { by_name.new.entries ≡ insert_entry string_eq by_name.old.entries key sym }
-    ensures room { spare by_name.old ≤ spare by_name.new + 1 }
-    ensures unique { IsUnique string_eq by_name.new }
+// The two symbols of a list sort.
+fn keyed_makers(
+    alloc: Global,
+    nil: &str,
+    cons: &str,
+    item: Sort,
+    sort: Sort,
+) -> Result<((String, Sym), (String, Sym)), NoMemory>
+    ensures nil { IfOk result (λ made. (string_bytes made.0.0 ≡ nil.now) × (made.0.1 ≡ record { name = nil.now; kind = Nil; args = []; result = Some sort })) }
+    ensures cons { IfOk result (λ made. (string_bytes made.1.0 ≡ cons.now) × (made.1.1 ≡ record { name = cons.now; kind = Cons; args = item ∷ sort ∷ []; result = Some sort })) }
 {
-    let _ = by_name.insert(key, sym);
+    let nil = keyed(alloc, nil, Kind::Nil, &[], sort)?;
+    match keyed(alloc, cons, Kind::Cons, &[item, sort], sort) {
+        Ok(cons) => Ok((nil, cons)),
+        Err(error) => {
+            drop(nil);
+            Err(error)
+        }
+    }
+}
+
+// The sort of tuples with these parts.
+fn named_tuple(
+    alloc: Global,
+    name: &str,
+    make: SymId,
+    parts: &[Sort],
+) -> Result<NamedSort, NoMemory>
+    ensures { IfOk result (λ sort. sort ≡ record { name = name.now; shape = shapes.Tuple make parts.now }) }
+{
+    let parts = Items::from_slice(alloc, parts)?;
+    match Text::from_str(alloc, name) {
+        Ok(name) => Ok(NamedSort {
+            name,
+            shape: Shape::Tuple { make, parts },
+        }),
+        Err(_) => {
+            drop(parts);
+            Err(NoMemory)
+        }
+    }
 }
 
 // Puts the sort and its size after the others, or leaves both lists as they were.
@@ -103,7 +141,10 @@ fn push_sort(
     ensures err_sorts { OnErr result (sorts.new ≡ sorts.old) }
     ensures err_sizes { OnErr result (sizes.new ≡ sizes.old) }
 {
-    sizes.push(size)?;
+    if sizes.push(size).is_err() {
+        drop(sort);
+        return Err(NoMemory);
+    }
     match sorts.push(sort) {
         Ok(()) => Ok(()),
         Err(_) => {
@@ -111,6 +152,29 @@ fn push_sort(
             Err(NoMemory)
         }
     }
+}
+
+// The same where there is to be room for so many symbols more.
+fn push_room(
+    by_name: &mut IndexMap<String, Sym>,
+    count: usize,
+    sorts: &mut Items<NamedSort>,
+    sizes: &mut Items<u32>,
+    sort: NamedSort,
+    size: u32,
+) -> Result<(), NoMemory>
+    ensures entries { by_name.new.entries ≡ by_name.old.entries }
+    ensures room { OnOk result (count ≤ spare by_name.new) }
+    ensures sorts { OnOk result (sorts.new ≡ sorts.old ++ sort ∷ []) }
+    ensures sizes { OnOk result (sizes.new ≡ sizes.old ++ size ∷ []) }
+    ensures err_sorts { OnErr result (sorts.new ≡ sorts.old) }
+    ensures err_sizes { OnErr result (sizes.new ≡ sizes.old) }
+{
+    if by_name.reserve(count).is_err() {
+        drop(sort);
+        return Err(NoMemory);
+    }
+    push_sort(sorts, sizes, sort, size)
 }
 
 fn place_of(sorts: &[NamedSort], name: &str) -> Option<usize>
@@ -127,8 +191,7 @@ fn place_of(sorts: &[NamedSort], name: &str) -> Option<usize>
 impl Symbols {
     fn is_free(&self, name: &str) -> bool
         ensures free { IsTrue result ↔ (IsName name.now × ¬ (IsTaken self.now name.now)) }
-        ensures distinct { HasDistinctNames self.now }
-        ensures sorts { HasDistinctSorts self.now }
+        ensures table { IsTable self.now }
     {
         !self.is_taken(name) && is_name(name)
     }
@@ -154,19 +217,31 @@ impl Symbols {
     // nothing is left half done where memory is refused.
     fn push_one(&mut self, sort: NamedSort, size: u32, make: (String, Sym)) -> Result<(), NoMemory>
         requires own { string_bytes make.0 ≡ make.1.name }
-        requires free { IsNew self.old sort.name × IsNew self.old make.1.name × (sort.name ≢ make.1.name) }
+        requires table { IsTable (with_symbol (with_sort self.old sort) make.1) }
         requires sized { size ≡ shape_size (default_sizes self.old.sorts) sort.shape }
         requires few { (length self.old.sorts < 2 ^ 32) × (length self.old.syms + 1 < 2 ^ 32) }
         ensures ok { OnOk result (self.new ≡ with_symbol (with_sort self.old sort) make.1) }
         ensures err { OnErr result (self.new ≡ self.old) }
-        ensures distinct { OnOk result (HasDistinctNames self.new) }
-        ensures sorts { HasDistinctSorts self.new }
+        ensures table { IsTable self.new }
     {
-        self.by_name.reserve(1)?;
-        push_sort(&mut self.sorts, &mut self.sizes, sort, size)?;
-        let (key, sym) = make;
-        put(&mut self.by_name, key, sym);
-        Ok(())
+        match push_room(
+            &mut self.by_name,
+            1,
+            &mut self.sorts,
+            &mut self.sizes,
+            sort,
+            size,
+        ) {
+            Ok(()) => {
+                let (key, sym) = make;
+                put(&mut self.by_name, key, sym);
+                Ok(())
+            }
+            Err(error) => {
+                drop(make);
+                Err(error)
+            }
+        }
     }
 
     // The same with two symbols.
@@ -174,32 +249,41 @@ impl Symbols {
         &mut self,
         sort: NamedSort,
         size: u32,
-        first: (String, Sym),
-        second: (String, Sym),
+        makers: ((String, Sym), (String, Sym)),
     ) -> Result<(), NoMemory>
-        requires own { (string_bytes first.0 ≡ first.1.name) × (string_bytes second.0 ≡ second.1.name) }
-        requires free { IsNew self.old sort.name × IsNew self.old first.1.name × IsNew self.old second.1.name }
-        requires apart { (sort.name ≢ first.1.name) × (sort.name ≢ second.1.name) × (first.1.name ≢ second.1.name) }
+        requires own { (string_bytes makers.0.0 ≡ makers.0.1.name) × (string_bytes makers.1.0 ≡ makers.1.1.name) }
+        requires table { IsTable (with_symbol (with_symbol (with_sort self.old sort) makers.0.1) makers.1.1) }
         requires sized { size ≡ shape_size (default_sizes self.old.sorts) sort.shape }
         requires few { (length self.old.sorts < 2 ^ 32) × (length self.old.syms + 1 < 2 ^ 32) }
-        ensures ok { OnOk result (self.new ≡ with_symbol (with_symbol (with_sort self.old sort) first.1) second.1) }
+        ensures ok { OnOk result (self.new ≡ with_symbol (with_symbol (with_sort self.old sort) makers.0.1) makers.1.1) }
         ensures err { OnErr result (self.new ≡ self.old) }
-        ensures distinct { OnOk result (HasDistinctNames self.new) }
-        ensures sorts { HasDistinctSorts self.new }
+        ensures table { IsTable self.new }
     {
-        self.by_name.reserve(2)?;
-        push_sort(&mut self.sorts, &mut self.sizes, sort, size)?;
-        let (key, sym) = first;
-        put(&mut self.by_name, key, sym);
-        let (key, sym) = second;
-        put(&mut self.by_name, key, sym);
-        Ok(())
+        match push_room(
+            &mut self.by_name,
+            2,
+            &mut self.sorts,
+            &mut self.sizes,
+            sort,
+            size,
+        ) {
+            Ok(()) => {
+                let ((key, sym), second) = makers;
+                put(&mut self.by_name, key, sym);
+                let (key, sym) = second;
+                put(&mut self.by_name, key, sym);
+                Ok(())
+            }
+            Err(error) => {
+                drop(makers);
+                Err(error)
+            }
+        }
     }
 
     fn may_add_list(&self, name: &str, nil: &str, cons: &str, item: Sort) -> bool
         ensures allowed { IsTrue result ↔ MayAddList self.now name.now nil.now cons.now item }
-        ensures distinct { HasDistinctNames self.now }
-        ensures sorts { HasDistinctSorts self.now }
+        ensures table { IsTable self.now }
     {
         self.is_free(name)
             && self.is_free(nil)
@@ -212,8 +296,7 @@ impl Symbols {
         requires { MayAddList self.old name.now nil.now cons.now item }
         ensures ok { IfOk result (λ sort. (sort ≡ next_sort self.old) × (self.new ≡ with_list self.old name.now nil.now cons.now item)) }
         ensures err { OnErr result (self.new ≡ self.old) }
-        ensures distinct { OnOk result (HasDistinctNames self.new) }
-        ensures sorts { HasDistinctSorts self.new }
+        ensures table { IsTable self.new }
     {
         let alloc = *self.by_name.allocator();
         let (sort, first, second) = self.next()?;
@@ -225,18 +308,24 @@ impl Symbols {
                 item,
             },
         };
-        let args = Items::from_slice(alloc, &[item, sort])?;
-        let nil = keyed(alloc, nil, Kind::Nil, Items::new(alloc), sort)?;
-        let cons = keyed(alloc, cons, Kind::Cons, args, sort)?;
-        self.push_two(named, 1, nil, cons)?;
-        Ok(sort)
+        match keyed_makers(alloc, nil, cons, item, sort) {
+            Ok(makers) => {
+                self.push_two(named, 1, makers)?;
+                Ok(sort)
+            }
+            Err(error) => {
+                drop(named);
+                Err(error)
+            }
+        }
     }
 
     /// Declares the sort of lists `name = nil | cons(item, name)`, adds its two symbols after the
     /// others, `nil` first, and gives the sort. None: it may not be declared, since one of the three
     /// names is no name, is taken or is given twice, or the items' sort is not there; the table is
-    /// then as it was. NoMemory: memory was refused, or there are as many sorts or symbols as there
-    /// are numbers for them; the table is then as it was too.
+    /// then as it was. NoMemory: memory was refused; the table is then as it was too. That numbers
+    /// run out, at 2^32 sorts or symbols, can't be reached: a file has at most 4,194,304 bytes, and
+    /// each declaration takes at least one.
     #[tactic(auto, using(crate::proofs::SymbolLaws::growth))]
     pub fn add_list(
         &mut self,
@@ -249,8 +338,7 @@ impl Symbols {
         ensures kept { IfOk result (λ o. IfNone o (self.new ≡ self.old)) }
         ensures err { OnErr result (self.new ≡ self.old) }
         ensures extends { IsPrefix self.old self.new }
-        ensures distinct { HasDistinctNames self.new }
-        ensures sorts { HasDistinctSorts self.new }
+        ensures table { IsTable self.new }
     {
         if !self.may_add_list(name, nil, cons, item) {
             return Ok(None);
@@ -267,8 +355,7 @@ impl Symbols {
 
     fn may_add_tuple(&self, name: &str, make: &str, parts: &[Sort]) -> bool
         ensures allowed { IsTrue result ↔ MayAddTuple self.now name.now make.now parts.now }
-        ensures distinct { HasDistinctNames self.now }
-        ensures sorts { HasDistinctSorts self.now }
+        ensures table { IsTable self.now }
     {
         self.is_free(name)
             && self.is_free(make)
@@ -282,23 +369,22 @@ impl Symbols {
         requires { MayAddTuple self.old name.now make.now parts.now }
         ensures ok { IfOk result (λ sort. (sort ≡ next_sort self.old) × (self.new ≡ with_tuple self.old name.now make.now parts.now)) }
         ensures err { OnErr result (self.new ≡ self.old) }
-        ensures distinct { OnOk result (HasDistinctNames self.new) }
-        ensures sorts { HasDistinctSorts self.new }
+        ensures table { IsTable self.new }
     {
         let alloc = *self.by_name.allocator();
         let (sort, first, _) = self.next()?;
         let size = tuple_size(self.sizes.as_slice(), parts);
-        let named = NamedSort {
-            name: Text::from_str(alloc, name)?,
-            shape: Shape::Tuple {
-                make: first,
-                parts: Items::from_slice(alloc, parts)?,
-            },
-        };
-        let args = Items::from_slice(alloc, parts)?;
-        let make = keyed(alloc, make, Kind::Tuple, args, sort)?;
-        self.push_one(named, size, make)?;
-        Ok(sort)
+        let named = named_tuple(alloc, name, first, parts)?;
+        match keyed(alloc, make, Kind::Tuple, parts, sort) {
+            Ok(make) => {
+                self.push_one(named, size, make)?;
+                Ok(sort)
+            }
+            Err(error) => {
+                drop(named);
+                Err(error)
+            }
+        }
     }
 
     /// Declares the sort of tuples `name = make(parts..)`, adds its symbol after the others and gives
@@ -320,8 +406,7 @@ impl Symbols {
         ensures kept { IfOk result (λ o. IfNone o (self.new ≡ self.old)) }
         ensures err { OnErr result (self.new ≡ self.old) }
         ensures extends { IsPrefix self.old self.new }
-        ensures distinct { HasDistinctNames self.new }
-        ensures sorts { HasDistinctSorts self.new }
+        ensures table { IsTable self.new }
     {
         if !self.may_add_tuple(name, make, parts) {
             return Ok(None);
@@ -335,7 +420,7 @@ impl Symbols {
     pub fn find_sort(&self, name: &str) -> Option<Sort>
         ensures place { result ≡ sort_named self.now name.now }
         ensures named { MatchOption result ((sort : Sort) → name_of_sort self.now sort ≢ Some name.now) (λ sort. name_of_sort self.now sort ≡ Some name.now) }
-        ensures sorts { HasDistinctSorts self.now }
+        ensures table { IsTable self.now }
     {
         let sorts = self.sorts.as_slice();
         if name == NAT {
@@ -350,7 +435,7 @@ impl Symbols {
     /// How the values of the sort are built. None: the table has no such sort.
     pub fn shape(&self, sort: Sort) -> Option<&Shape>
         ensures shape { option_copied result ≡ shape_of_sort self.now sort }
-        ensures sorts { HasDistinctSorts self.now }
+        ensures table { IsTable self.now }
     {
         match sort {
             Sort::Nat => Some(&self.nat),
@@ -365,7 +450,7 @@ impl Symbols {
     /// sort.
     pub fn sort_name(&self, sort: Sort) -> Option<&str>
         ensures name { option_copied result ≡ name_of_sort self.now sort }
-        ensures sorts { HasDistinctSorts self.now }
+        ensures table { IsTable self.now }
     {
         match sort {
             Sort::Nat => Some(NAT),
@@ -374,89 +459,5 @@ impl Symbols {
                 Some(sort) => Some(sort.name.as_str()),
             },
         }
-    }
-}
-
-#[cfg(test)]
-mod tests {
-    use super::*;
-    use std::test::Fail;
-
-    // What a new table answers to the list sort.
-    fn list(alloc: Global, names: [&str; 3], item: Sort) -> Result<Option<Sort>, NoMemory> {
-        Symbols::new(alloc)?.add_list(names[0], names[1], names[2], item)
-    }
-
-    // What a table with a list sort answers to another, and when asked for the sort.
-    fn lists(alloc: Global, name: &str, nil: &str) -> Result<[Option<Sort>; 2], NoMemory> {
-        let mut table = Symbols::new(alloc)?;
-        table.add_list("nats", "nil", "cons", Sort::Nat)?;
-        let second = table.add_list(name, nil, "more", Sort::Named(0))?;
-        Ok([second, table.find_sort(name)])
-    }
-
-    // What the table answers to the sort of tuples with so many parts of one sort, and a last part.
-    fn tuple(
-        table: &mut Symbols,
-        name: &str,
-        make: &str,
-        parts: (usize, Sort),
-        last: Sort,
-    ) -> Result<Option<Sort>, NoMemory> {
-        let mut all = Items::new(*table.by_name.allocator());
-        for _ in 0..parts.0 {
-            all.push(parts.1)?;
-        }
-        all.push(last)?;
-        table.add_tuple(name, make, all.as_slice())
-    }
-
-    #[test]
-    fn declares_lists(rt: HostRuntime) -> Result<(), Fail> {
-        let alloc = rt.alloc();
-        let nats = Some(Sort::Named(0));
-        for (names, item, wanted) in [
-            (["l", "nil", "cons"], Sort::Nat, nats),
-            (["nat", "nil", "cons"], Sort::Nat, None),
-            (["l", "l", "cons"], Sort::Nat, None),
-            (["l", "nil", "nil"], Sort::Nat, None),
-            (["l", "nil", "cons"], Sort::Named(0), None),
-        ] {
-            assert_eq!(rt; list(alloc, names, item)?, wanted);
-        }
-        assert_eq!(rt; lists(alloc, "nats", "none")?, [None, nats]);
-        assert_eq!(rt; lists(alloc, "rows", "nil")?, [None, None]);
-        assert_eq!(rt; lists(alloc, "rows", "none")?, [Some(Sort::Named(1)); 2]);
-        Ok(())
-    }
-
-    // The default terms of quad, big and full have 5, 21 and 64 nodes.
-    #[test]
-    fn declares_tuples(rt: HostRuntime) -> Result<(), Fail> {
-        let nat = Sort::Nat;
-        let (quad, big, full) = (Sort::Named(0), Sort::Named(1), Sort::Named(2));
-        let mut table = Symbols::new(rt.alloc())?;
-        for (name, make, parts, last, wanted) in [
-            ("quad", "q", (0, nat), nat, None),
-            ("quad", "q", (4, nat), nat, None),
-            ("quad", "quad", (3, nat), nat, None),
-            ("quad", "q", (3, nat), nat, Some(quad)),
-            ("big", "b", (3, quad), quad, Some(big)),
-            ("full", "f", (3, big), nat, None),
-            ("full", "f", (2, big), big, Some(full)),
-        ] {
-            assert_eq!(rt; tuple(&mut table, name, make, parts, last)?, wanted);
-        }
-        Ok(())
-    }
-
-    #[test]
-    fn shows_sorts(rt: HostRuntime) -> Result<(), Fail> {
-        let table = Symbols::new(rt.alloc())?;
-        assert_eq!(rt; table.find_sort("nat"), Some(Sort::Nat));
-        assert_eq!(rt; table.sort_name(Sort::Nat), Some("nat"));
-        assert!(rt; matches!(table.shape(Sort::Nat), Some(Shape::Nat)));
-        assert!(rt; table.shape(Sort::Named(0)).is_none());
-        Ok(())
     }
 }

@@ -1,13 +1,15 @@
-// The table of symbols. A symbol is found by its name in a hash table and by its number in order;
-// a symbol is added only where every test passes, so names in a table are distinct, and what a
-// table says of a symbol never changes.
-ghost use Rattle.std.specs.Prelude.{◌≡◌, ◌↔◌, ◌<◌, ℕ, IsTrue, Some, IfSome, IfNone, IfOk, OnOk, OnErr, MatchOption, Contains, All, Any, [], slice_get, length, position};
+// The table of symbols. A symbol is found by its name in a hash table and by its number in order; a
+// symbol is added only where every test passes, so that a table stays one, and what it says of a
+// symbol never changes.
+ghost use Rattle.std.specs.Prelude.{◌≡◌, ◌↔◌, ◌+◌, ◌<◌, ◌≤◌, ◌^◌, ◌∷◌, string_bytes, ℕ, IsTrue, Some, IfSome, IfNone, IfOk, OnOk, OnErr, MatchOption, Contains, All, Any, [], slice_get, length, position};
 ghost use Rattle.std.specs.Option.{option_copied, option_map};
 ghost use Rattle.std.specs.Str.{bytes_eq};
+ghost use Rattle.std.specs.String.{string_eq};
+ghost use Rattle.indexmap.specs.IndexMap.{insert_entry, spare, values};
 ghost use Rattle.syn_term.specs.declared.sorts.Kind.TheVariants.{Input};
-ghost use Rattle.syn_term.specs.Symbols.{SymbolTable, IsTaken, IsSortBelow, FitsName, FitsResult, IsAddable, FitsKind, MayAdd, IsPrefix, HasDistinctNames, zero_symbol, succ_symbol, first_symbols, with_symbol, symbol_at, names_of};
-ghost use Rattle.syn_term.specs.DeclaredSorts.{HasDistinctSorts};
-ghost use Rattle.syn_term.specs.SymbolKeys.{IsNew};
+ghost use Rattle.syn_term.specs.Symbols.{SymbolTable, IsTaken, IsSortBelow, FitsName, FitsResult, IsAddable, FitsKind, MayAdd, IsPrefix, zero_symbol, succ_symbol, first_symbols, with_symbol, symbol_at, names_of};
+ghost use Rattle.syn_term.specs.DeclaredSorts.{IsTable};
+ghost use Rattle.syn_term.specs.inner.SymbolKeys.{IsEntered, IsKeyed};
 
 use crate::memory::NoMemory;
 use crate::names::{is_name, is_skolem_name};
@@ -94,31 +96,99 @@ fn names_a_sort(sorts: &[NamedSort], name: &str) -> bool
     sorts.iter().any(|sort| sort.name.as_str() == name)
 }
 
-fn make_zero(alloc: Global) -> Result<Sym, NoMemory>
-    ensures { IfOk result (λ sym. sym ≡ zero_symbol) }
+// The symbol, each of its parts a copy.
+pub(crate) fn make_sym(
+    alloc: Global,
+    name: &str,
+    kind: Kind,
+    args: &[Sort],
+    value: Option<Sort>,
+) -> Result<Sym, NoMemory>
+    ensures { IfOk result (λ sym. sym ≡ record { name = name.now; kind = kind; args = args.now; result = value }) }
 {
-    Ok(Sym {
-        name: Text::from_str(alloc, "0")?,
-        kind: Kind::Zero,
-        args: Items::new(alloc),
-        result: Some(Sort::Nat),
-    })
+    let args = Items::from_slice(alloc, args)?;
+    match Text::from_str(alloc, name) {
+        Ok(name) => Ok(Sym {
+            name,
+            kind,
+            args,
+            result: value,
+        }),
+        Err(_) => {
+            drop(args);
+            Err(NoMemory)
+        }
+    }
 }
 
-fn make_succ(alloc: Global) -> Result<Sym, NoMemory>
-    ensures { IfOk result (λ sym. sym ≡ succ_symbol) }
+// The number of the symbol that is entered next, and a copy of its name as the key that it will
+// stand under; there is room for it then.
+fn ready(by_name: &mut IndexMap<String, Sym>, name: &str) -> Result<(u32, String), NoMemory>
+    ensures entries { by_name.new.entries ≡ by_name.old.entries }
+    ensures room { OnOk result (0 < spare by_name.new) }
+    ensures number { IfOk result (λ made. made.0 ≡ length by_name.old.entries) }
+    ensures own { IfOk result (λ made. string_bytes made.1 ≡ name.now) }
 {
-    Ok(Sym {
-        name: Text::from_str(alloc, "s")?,
-        kind: Kind::Succ,
-        args: Items::from_slice(alloc, &[Sort::Nat])?,
-        result: Some(Sort::Nat),
-    })
+    let Ok(number) = u32::try_from(by_name.len()) else {
+        return Err(NoMemory);
+    };
+    by_name.reserve(1)?;
+    Ok((number, String::from_str(*by_name.allocator(), name)?))
+}
+
+// Puts the symbol under the key, where there is room: this takes no memory.
+pub(crate) fn put(by_name: &mut IndexMap<String, Sym>, key: String, sym: Sym)
+    requires { 0 < spare by_name.old }
+    ensures entries { by_name.new.entries ≡ insert_entry string_eq by_name.old.entries key sym }
+    ensures room { spare by_name.old ≤ spare by_name.new + 1 }
+{
+    let _ = by_name.insert(key, sym);
+}
+
+// Enters the symbol under its name and gives its number, or leaves the hash table as it was.
+pub(crate) fn enter(by_name: &mut IndexMap<String, Sym>, sym: Sym) -> Result<SymId, NoMemory>
+    ensures ok { OnOk result (IsEntered sym by_name.old.entries by_name.new.entries) }
+    ensures number { IfOk result (λ id. (id.0 ≡ length by_name.old.entries) × (length by_name.old.entries < 2 ^ 32)) }
+    ensures err { OnErr result (by_name.new.entries ≡ by_name.old.entries) }
+{
+    match ready(by_name, sym.name.as_str()) {
+        Ok((number, key)) => {
+            put(by_name, key, sym);
+            Ok(SymId(number))
+        }
+        Err(error) => {
+            drop(sym);
+            Err(error)
+        }
+    }
+}
+
+// The symbol that was entered so many after the first.
+pub(crate) fn nth_symbol(by_name: &IndexMap<String, Sym>, index: usize) -> Option<&Sym>
+    ensures { option_copied result ≡ slice_get (values by_name.now) index }
+{
+    match by_name.get_index(index) {
+        None => None,
+        Some((_, sym)) => Some(sym),
+    }
+}
+
+// Enters `0` and `s` into a hash table that is empty.
+fn enter_first(alloc: Global, by_name: &mut IndexMap<String, Sym>) -> Result<(), NoMemory>
+    requires { by_name.old.entries ≡ [] }
+    ensures { OnOk result (IsKeyed by_name.new.entries × (values by_name.new ≡ zero_symbol ∷ succ_symbol ∷ [])) }
+{
+    let nat = Some(Sort::Nat);
+    enter(by_name, make_sym(alloc, "0", Kind::Zero, &[], nat)?)?;
+    enter(
+        by_name,
+        make_sym(alloc, "s", Kind::Succ, &[Sort::Nat], nat)?,
+    )?;
+    Ok(())
 }
 
 /// The symbols of a problem, each with a name of its own and a number in the order in which they
 /// came, and the declared sorts. Contracts see it as its two lists.
-#[derive(Drop)]
 pub struct Symbols {
     pub(crate) by_name: IndexMap<String, Sym>,
     pub(crate) sorts: Items<NamedSort>,
@@ -128,66 +198,71 @@ pub struct Symbols {
     pub(crate) nat: Shape,
 }
 
+impl Drop for Symbols {
+    fn drop(self) {
+        let Symbols {
+            by_name: _,
+            sorts: _,
+            sizes: _,
+            nat: _,
+        } = self;
+    }
+}
+
 impl Model for Symbols {
     ghost use Rattle.indexmap.specs.IndexMap.{values};
     ghost use Rattle.syn_term.specs.Symbols.{SymbolTable};
-    ghost use Rattle.syn_term.specs.SymbolKeys.{IsKept};
+    ghost use Rattle.syn_term.specs.inner.SymbolKeys.{IsIndexed};
 
     ghost Value = { SymbolTable };
 
     ghost view = { λ table. record { syms = values table.by_name; sorts = table.sorts } };
 
-    ghost invariant = { λ table. IsKept table.by_name.entries table.sorts table.sizes table.nat };
+    ghost invariant = { λ table. IsIndexed table.by_name.entries table.sorts table.sizes table.nat };
 }
 
 impl Symbols {
     /// The table of zero, which is written `0`, and the successor, which is written `s`.
     pub fn new(alloc: Global) -> Result<Symbols, NoMemory>
         ensures first { IfOk result (λ table. table ≡ first_symbols) }
-        ensures distinct { IfOk result HasDistinctNames }
-        ensures sorts { IfOk result HasDistinctSorts }
+        ensures table { IfOk result IsTable }
     {
-        let mut table = Symbols {
-            by_name: IndexMap::new(alloc),
-            sorts: Items::new(alloc),
-            sizes: Items::new(alloc),
-            nat: Shape::Nat,
-        };
-        table.push(make_zero(alloc)?)?;
-        table.push(make_succ(alloc)?)?;
-        Ok(table)
+        let mut by_name = IndexMap::new(alloc);
+        match enter_first(alloc, &mut by_name) {
+            Ok(()) => Ok(Symbols {
+                by_name,
+                sorts: Items::new(alloc),
+                sizes: Items::new(alloc),
+                nat: Shape::Nat,
+            }),
+            Err(error) => {
+                drop(by_name);
+                Err(error)
+            }
+        }
     }
 
     // The name is copied, since the hash table owns its keys and the symbol its name.
     fn push(&mut self, sym: Sym) -> Result<SymId, NoMemory>
-        requires { IsNew self.old sym.name }
+        requires { IsTable (with_symbol self.old sym) }
         ensures ok { IfOk result (λ id. (id.0 ≡ length self.old.syms) × (self.new ≡ with_symbol self.old sym)) }
         ensures err { OnErr result (self.new ≡ self.old) }
-        ensures distinct { OnOk result (HasDistinctNames self.new) }
-        ensures sorts { HasDistinctSorts self.new }
+        ensures table { IsTable self.new }
     {
-        let Ok(number) = u32::try_from(self.by_name.len()) else {
-            return Err(NoMemory);
-        };
-        let name = String::from_str(*self.by_name.allocator(), sym.name.as_str())?;
-        match self.by_name.insert(name, sym) {
-            Ok(_) => Ok(SymId(number)),
-            Err(_) => Err(NoMemory),
-        }
+        let id = enter(&mut self.by_name, sym)?;
+        Ok(id)
     }
 
     pub(crate) fn is_taken(&self, name: &str) -> bool
         ensures taken { IsTrue result ↔ IsTaken self.now name.now }
-        ensures distinct { HasDistinctNames self.now }
-        ensures sorts { HasDistinctSorts self.now }
+        ensures table { IsTable self.now }
     {
         self.find(name).is_some() || names_a_sort(self.sorts.as_slice(), name)
     }
 
     fn may_add(&self, sym: &Sym) -> bool
         ensures allowed { IsTrue result ↔ MayAdd self.now sym.now }
-        ensures distinct { HasDistinctNames self.now }
-        ensures sorts { HasDistinctSorts self.now }
+        ensures table { IsTable self.now }
     {
         let count = self.sorts.len();
         !self.is_taken(sym.name.as_str())
@@ -199,16 +274,16 @@ impl Symbols {
     /// Adds a symbol after the others and gives its number. None: it may not be added, since its
     /// name is taken or not of the form that its kind asks for, a sort is not there, the kind is
     /// not one that is added, an input has arguments, or a result is there or missing against the
-    /// kind; the table is then as it was. NoMemory: memory was refused, or the table has as many
-    /// symbols as there are numbers for them; the table is then as it was too.
-    #[tactic(auto, using(crate::proofs::SymbolLaws::growth, crate::proofs::SortLemmas::new_of_added))]
+    /// kind; the table is then as it was. NoMemory: memory was refused; the table is then as it was
+    /// too. That numbers run out, at 2^32 symbols, can't be reached: a file has at most 4,194,304
+    /// bytes, and each declaration takes at least one.
+    #[tactic(auto, using(crate::proofs::SymbolLaws::growth, crate::proofs::TableLaws::table_added))]
     pub fn add(&mut self, sym: Sym) -> Result<Option<SymId>, NoMemory>
         ensures added { IfOk result (λ o. MatchOption o (¬ (MayAdd self.old sym)) (λ id. MayAdd self.old sym × (id.0 ≡ length self.old.syms) × (self.new ≡ with_symbol self.old sym))) }
         ensures kept { IfOk result (λ o. IfNone o (self.new ≡ self.old)) }
         ensures err { OnErr result (self.new ≡ self.old) }
         ensures extends { IsPrefix self.old self.new }
-        ensures distinct { HasDistinctNames self.new }
-        ensures sorts { HasDistinctSorts self.new }
+        ensures table { IsTable self.new }
     {
         if !self.may_add(&sym) {
             return Ok(None);
@@ -221,8 +296,7 @@ impl Symbols {
     pub fn find(&self, name: &str) -> Option<SymId>
         ensures place { option_map (λ id. id.0) result ≡ position (bytes_eq name.now) (names_of self.now) }
         ensures named { MatchOption result (¬ (Contains (names_of self.now) name.now)) (λ id. slice_get (names_of self.now) id.0 ≡ Some name.now) }
-        ensures distinct { HasDistinctNames self.now }
-        ensures sorts { HasDistinctSorts self.now }
+        ensures table { IsTable self.now }
     {
         match self.by_name.get_index_of(name) {
             None => None,
@@ -233,82 +307,8 @@ impl Symbols {
     /// The symbol with this number. None: the table has no such number.
     pub fn get(&self, id: SymId) -> Option<&Sym>
         ensures symbol { option_copied result ≡ symbol_at self.now id }
-        ensures sorts { HasDistinctSorts self.now }
+        ensures table { IsTable self.now }
     {
-        match self.by_name.get_index(id.0 as usize) {
-            None => None,
-            Some((_, sym)) => Some(sym),
-        }
-    }
-}
-
-#[cfg(test)]
-mod tests {
-    use super::*;
-    use std::test::Fail;
-
-    fn symbol(
-        alloc: Global,
-        name: &str,
-        kind: Kind,
-        args: &[Sort],
-        value: Option<Sort>,
-    ) -> Result<Sym, NoMemory> {
-        Ok(Sym {
-            name: Text::from_str(alloc, name)?,
-            kind,
-            args: Items::from_slice(alloc, args)?,
-            result: value,
-        })
-    }
-
-    // What a new table answers to the symbol, or NoMemory.
-    fn answer(
-        alloc: Global,
-        name: &str,
-        kind: Kind,
-        args: &[Sort],
-        value: Option<Sort>,
-    ) -> Result<Option<SymId>, NoMemory> {
-        let mut table = Symbols::new(alloc)?;
-        table.add(symbol(alloc, name, kind, args, value)?)
-    }
-
-    // What a table answers to an input, to the same input again, and when asked for it.
-    fn answers(alloc: Global) -> Result<[Option<SymId>; 3], NoMemory> {
-        let mut table = Symbols::new(alloc)?;
-        let first = table.add(symbol(alloc, "x", Kind::Input, &[], Some(Sort::Nat))?)?;
-        let second = table.add(symbol(alloc, "x", Kind::Input, &[], Some(Sort::Nat))?)?;
-        Ok([first, second, table.find("x")])
-    }
-
-    #[test]
-    fn adds_what_may_be_added(rt: HostRuntime) -> Result<(), Fail> {
-        let alloc = rt.alloc();
-        let nat = Some(Sort::Nat);
-        assert_eq!(rt;
-            answer(alloc, "!gap.1", Kind::Skolem, &[], nat)?,
-            Some(SymId(2))
-        );
-        assert_eq!(rt; answer(alloc, "!gap.0", Kind::Skolem, &[], nat)?, None);
-        assert_eq!(rt; answer(alloc, "y", Kind::Succ, &[Sort::Nat], nat)?, None);
-        assert_eq!(rt; answer(alloc, "le", Kind::Rel, &[Sort::Nat], nat)?, None);
-        assert_eq!(rt;
-            answer(alloc, "f", Kind::Fun, &[Sort::Named(0)], nat)?,
-            None
-        );
-        Ok(())
-    }
-
-    #[test]
-    fn finds_what_was_added(rt: HostRuntime) -> Result<(), Fail> {
-        assert_eq!(rt;
-            answers(rt.alloc())?,
-            [Some(SymId(2)), None, Some(SymId(2))]
-        );
-        let table = Symbols::new(rt.alloc())?;
-        assert_eq!(rt; table.find("s"), Some(SymId(1)));
-        assert!(rt; table.get(SymId(2)).is_none());
-        Ok(())
+        nth_symbol(&self.by_name, id.0 as usize)
     }
 }

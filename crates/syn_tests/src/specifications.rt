@@ -1,126 +1,73 @@
 // Which texts are specifications, and what programs are printed of them.
-use crate::bench::{Texts, assert_check, identity};
+use crate::bench::{Form, walk};
 use std::alloc::{AllocError, Global};
 use std::test::Fail;
-use syn_app::Status;
 
-// The specification whose output is the term, and the derivation of two rows that belongs to it.
-fn spec_of(alloc: Global, term: &str) -> Result<String, AllocError> {
-    format!(in alloc; "spec same\nprogram same(a: nat): z: nat\nensures z = {term}\n")
-}
+const BODIES: &str = "a\n0\n3\n1000\ns(1000)\ns(a)\ns(s(a))";
 
-fn deriv_of(alloc: Global, term: &str) -> Result<String, AllocError> {
-    format!(in alloc;
-        "derivation 1\n1 goal: goal ?1 = {term} | ?1\n2 reflex 1 -: goal true | {term}\n"
-    )
-}
+const NO_CONDITIONS: &str = "?1\n1001\n01\nb\nz\nsame\ns(a\ns a\ns()\n";
 
-// `s(..)` so many times round the input.
+const REFUSED: &str = " => 1
+spec nat~ => 1
+spec same~ => 2
+spec x~ensures z = a~ => 2
+spec x~program same(same: nat): z: nat~ensures z = same~ => 2
+spec x~program same(a: nat): same: nat~ensures same = a~ => 2
+spec x~program same(a: nat): a: nat~ensures a = a~ => 2
+spec x~program same(a: nat): z:nat~ensures z = a~ => 2
+spec x~program same(a: nat): z: nat~ => 3
+spec x~program same(a: nat): z: nat~ensures y = a~ => 3
+spec x~program same(a: nat): z: nat~ensures z = a => 3
+spec x~program same(a: nat): z: nat~ensures z = a~~ => 4
+";
+
+/// A specification and its derivation, whose program gives the term.
+const GIVES: Form<'static> = Form {
+    files: "=;spec same~program same(a: nat): z: nat~ensures z = @~;derivation 1~1 goal: goal ?1 = @ | ?1~2 reflex 1 -: goal true | @~",
+    answer: "done program same(a: nat): nat~  @~",
+};
+
+const NO_CONDITION: Form<'static> = Form {
+    files: "=;spec same~program same(a: nat): z: nat~ensures z = @~;=",
+    answer: "bad spec: line 3",
+};
+
+/// `s(..)` so many times round the input.
 fn nested(alloc: Global, count: usize) -> Result<String, AllocError> {
     let mut term = String::new(alloc);
     for _ in 0..count {
         term.push_str("s(")?;
     }
-    term.push_str("a")?;
+    term.push('a')?;
     for _ in 0..count {
-        term.push_str(")")?;
+        term.push(')')?;
     }
     Ok(term)
 }
 
 #[test]
-fn prints_bodies(rt: HostRuntime) -> Result<(), Fail> {
+fn judges_conditions(rt: HostRuntime) -> Result<(), Fail> {
     let alloc = rt.alloc();
-    let deepest = nested(alloc, 1198)?;
-    for term in [
-        "a",
-        "0",
-        "3",
-        "1000",
-        "s(1000)",
-        "s(a)",
-        "s(s(a))",
-        deepest.as_str(),
-    ] {
-        let spec = spec_of(alloc, term)?;
-        let deriv = deriv_of(alloc, term)?;
-        let texts = Texts {
-            spec: spec.as_bytes(),
-            deriv: deriv.as_bytes(),
-            ..identity()
-        };
-        let printed = format!(in alloc; "program same(a: nat): nat\n  {term}\n")?;
-        assert_check(&rt, alloc, term, texts, Status::Done, printed.as_str())?;
-    }
-    Ok(())
+    walk(&rt, alloc, GIVES, BODIES)?;
+    walk(&rt, alloc, GIVES, nested(alloc, 1198)?.as_str())?;
+    walk(&rt, alloc, NO_CONDITION, NO_CONDITIONS)?;
+    walk(&rt, alloc, NO_CONDITION, nested(alloc, 1199)?.as_str())
 }
 
 #[test]
 fn prints_names(rt: HostRuntime) -> Result<(), Fail> {
-    let texts = Texts {
-        spec: "spec ταυτό\nprogram ταυτό(α: nat): ω: nat\nensures ω = α\n".as_bytes(),
-        deriv: "derivation 1\n1 goal: goal ?1 = α | ?1\n2 reflex 1 -: goal true | α\n".as_bytes(),
-        ..identity()
+    let greek = Form {
+        files: "=;spec @~program @(#: nat): ω: nat~ensures ω = #~;derivation 1~1 goal: goal ?1 = # | ?1~2 reflex 1 -: goal true | #~",
+        answer: "done program @(#: nat): nat~  #~",
     };
-    let printed = "program ταυτό(α: nat): nat\n  α\n";
-    assert_check(&rt, rt.alloc(), "Greek names", texts, Status::Done, printed)
-}
-
-#[test]
-fn refuses_conditions(rt: HostRuntime) -> Result<(), Fail> {
-    let alloc = rt.alloc();
-    let too_deep = nested(alloc, 1199)?;
-    for term in [
-        "?1",
-        "1001",
-        "01",
-        "b",
-        "z",
-        "same",
-        "s(a",
-        "s a",
-        "s()",
-        "",
-        too_deep.as_str(),
-    ] {
-        let spec = spec_of(alloc, term)?;
-        let texts = Texts {
-            spec: spec.as_bytes(),
-            ..identity()
-        };
-        assert_check(&rt, alloc, term, texts, Status::BadSpec(3), "")?;
-    }
-    Ok(())
+    walk(&rt, rt.alloc(), greek, "ταυτό => α")
 }
 
 #[test]
 fn refuses_specifications(rt: HostRuntime) -> Result<(), Fail> {
-    let cases: [(&str, u64); 12] = [
-        ("", 1),
-        ("spec nat\n", 1),
-        ("spec same\n", 2),
-        ("spec x\nensures z = a\n", 2),
-        (
-            "spec x\nprogram same(same: nat): z: nat\nensures z = same\n",
-            2,
-        ),
-        (
-            "spec x\nprogram same(a: nat): same: nat\nensures same = a\n",
-            2,
-        ),
-        ("spec x\nprogram same(a: nat): a: nat\nensures a = a\n", 2),
-        ("spec x\nprogram same(a: nat): z:nat\nensures z = a\n", 2),
-        ("spec x\nprogram same(a: nat): z: nat\n", 3),
-        ("spec x\nprogram same(a: nat): z: nat\nensures y = a\n", 3),
-        ("spec x\nprogram same(a: nat): z: nat\nensures z = a", 3),
-        ("spec x\nprogram same(a: nat): z: nat\nensures z = a\n\n", 4),
-    ];
-    for (spec, line) in cases {
-        let texts = Texts {
-            spec: spec.as_bytes(),
-            ..identity()
-        };
-        assert_check(&rt, rt.alloc(), spec, texts, Status::BadSpec(line), "")?;
-    }
-    Ok(())
+    let refused = Form {
+        files: "=;@;=",
+        answer: "bad spec: line #",
+    };
+    walk(&rt, rt.alloc(), refused, REFUSED)
 }

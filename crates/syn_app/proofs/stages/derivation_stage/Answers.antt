@@ -9,4 +9,4 @@ returns-in-Err-judge_derivation-clause-status g c =
 
 pub returns-clause-status : goal.returns-clause-status
 returns-clause-status g c =
-    ends_write c.args.spec.now _ _ _ _ c.as_slice.result.now _ _ _ _ _ (subst (IsLoaded _ _) (sym c.as_slice.ensures.value) c.in-Ok.ensures.bytes) (subst (Prints c.args.spec.now c.as_slice.result.now) (sym c.as_str.ensures.value) c.in-Ok-judge_derivation.ensures) _ c.write.ensures
+    ends_write c.args.spec.now _ _ _ _ c.as_slice.result.now _ _ _ _ _ (subst (IsLoaded _ _) (sym c.as_slice.ensures.value) c.in-Ok.ensures.bytes) (subst (Prints c.args.spec.now c.as_slice.result.now) (sym c.as_str.ensures.value) c.in-Ok-judge_derivation.ensures) _ c.write.ensures.ends

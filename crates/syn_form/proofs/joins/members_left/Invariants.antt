@@ -1,5 +1,5 @@
 use Rattle.std.proofs.Common.{◌≡◌, take}
-use Rattle.syn_form.specs.Joining.{joining}
+use Rattle.syn_form.specs.inner.Joining.{joining}
 use Rattle.syn_form.specs.Simplification.{members_left}
 use Rattle.syn_form.proofs.joins.members_left.Given as goal
 

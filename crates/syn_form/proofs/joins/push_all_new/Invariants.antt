@@ -1,5 +1,5 @@
 use Rattle.std.proofs.Common.{◌≡◌, take, filter}
-use Rattle.syn_form.specs.Joining.{joining, stays}
+use Rattle.syn_form.specs.inner.Joining.{joining, stays}
 use Rattle.syn_form.specs.Simplification.{without_repeats}
 use Rattle.syn_form.proofs.joins.push_all_new.Given as goal
 

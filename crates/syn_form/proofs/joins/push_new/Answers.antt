@@ -1,5 +1,5 @@
-use Rattle.syn_form.proofs.Members.{with_neutral}
+use Rattle.syn_form.proofs.Banks.{second_of}
 use Rattle.syn_form.proofs.joins.push_new.Goals as goal
 
-pub is_same-requires : goal.is_same-requires
-is_same-requires c = with_neutral _ _ _ _ c.neutral.ensures c.requires
+pub is_neutral-requires : goal.is_neutral-requires
+is_neutral-requires c = second_of _ _ c.requires

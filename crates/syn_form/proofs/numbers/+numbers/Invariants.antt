@@ -1,7 +1,7 @@
 use Rattle.std.proofs.Common.{◌≡◌, ◌+◌, ◌*◌, length, take}
 use Rattle.std.specs.List.{flat_map}
 use Rattle.syn_form.specs.PlainQuantified.{binders_of}
-use Rattle.syn_form.specs.Numbers.{AreFrom}
+use Rattle.syn_form.specs.inner.BinderNumbers.{AreFrom}
 use Rattle.syn_form.proofs.numbers.+numbers.Given as goal
 
 -- a tree is larger than its parts, and the parts come before each of them

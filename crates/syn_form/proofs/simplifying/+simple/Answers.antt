@@ -1,33 +1,50 @@
-use Rattle.std.proofs.Common.{◌∙◌, refl, rules}
-use Rattle.std.proofs.lemmas.List.{get_or_read}
-use Rattle.syn_form.specs.declared.trees.Form.TheFolds.{the_lemmas}
-use Rattle.std.proofs.lemmas.Result.{IfOk-weaker}
+use Rattle.std.proofs.Common.{◌+◌, ◌*◌, ◌<◌, ◌∙◌, map, sum, arith}
 use Rattle.syn_form.specs.Simplification.{conjunction, disjunction}
-use Rattle.syn_form.proofs.Banks.{right_bank, implied_bank, item_bank, parts_bank, chain_end}
+use Rattle.syn_form.specs.Trees.{form_nodes}
+use Rattle.syn_form.proofs.Banks.{first_of, implied_bank, item_bank, members_bank, negation_bank, parts_bank, second_of, sides_bank}
+use Rattle.syn_form.proofs.Fewer.{fewer_members, fewer_negated, fewer_sides, no_more}
 use Rattle.syn_form.proofs.simplifying.+simple.Goals as goal
 
-pub simple-requires-in-Implies-2 : goal.simple-requires-in-Implies-2
-simple-requires-in-Implies-2 t c = (search (rules, the_lemmas, get_or_read), right_bank _ _ _ _ _ c.in-Implies.is refl c.get-in-Implies-2.ensures c.requires)
+pub simple-simple_negation-requires : goal.simple-simple_negation-requires
+simple-simple_negation-requires t c =
+    let fewer = fewer_negated _ _ _ c.in-Not.is c.get.ensures in
+    let less : 2 * form_nodes c.get.result.now + 1 < t = omega arith in
+    (less, negation_bank _ _ _ c.in-Not.is c.get.ensures c.requires)
 
-pub implied-requires : goal.implied-requires
-implied-requires t c = implied_bank _ _ _ _ _ c.in-Implies.is c.get-in-Implies.ensures c.get-in-Implies-2.ensures _ _ c.in_ok-a-in-Implies.ensures c.in_ok-b-in-Implies.ensures c.requires
+pub simple-simple_implication-requires : goal.simple-simple_implication-requires
+simple-simple_implication-requires t c =
+    let fewer = fewer_sides _ _ _ _ _ c.in-Implies.is c.get-in-Implies.ensures c.get-in-Implies-2.ensures in
+    let less : 2 * (form_nodes c.get-in-Implies.result.now + form_nodes c.get-in-Implies-2.result.now) + 1 < t = omega arith in
+    (less, sides_bank _ _ _ _ _ c.in-Implies.is c.get-in-Implies.ensures c.get-in-Implies-2.ensures c.requires)
 
-pub simple-requires-in-loop-part : goal.simple-requires-in-loop-part
-simple-requires-in-loop-part t c = (search (rules, the_lemmas, get_or_read), item_bank conjunction _ _ _ c.in-And.is (c.as_slice-part-items.ensures ∙ c.get-in-And.ensures) _ _ c.loop-part-test.true c.part-item.is c.requires)
+pub simple-simple_chain-requires : goal.simple-simple_chain-requires
+simple-simple_chain-requires t c =
+    let same = c.as_slice.ensures ∙ c.get-in-And.ensures in
+    let fewer = fewer_members conjunction _ _ _ c.in-And.is same in
+    let less : 2 * sum (map form_nodes c.as_slice.result.now) + 1 < t = omega arith in
+    (less, members_bank conjunction _ _ _ c.in-And.is same c.requires)
 
-pub joined-requires : goal.joined-requires
-joined-requires t c = parts_bank conjunction _ _ _ c.in-And.is (c.as_slice-part-items.ensures ∙ c.get-in-And.ensures) _ _ (c.as_slice.ensures ∙ c.loop-part.invariant) c.requires
+pub simple-simple_chain-requires-in-Or : goal.simple-simple_chain-requires-in-Or
+simple-simple_chain-requires-in-Or t c =
+    let same = c.as_slice-in-Or.ensures ∙ c.get-in-Or.ensures in
+    let fewer = fewer_members disjunction _ _ _ c.in-Or.is same in
+    let less : 2 * sum (map form_nodes c.as_slice-in-Or.result.now) + 1 < t = omega arith in
+    (less, members_bank disjunction _ _ _ c.in-Or.is same c.requires)
 
-pub simple-requires-in-loop-part-2 : goal.simple-requires-in-loop-part-2
-simple-requires-in-loop-part-2 t c = (search (rules, the_lemmas, get_or_read), item_bank disjunction _ _ _ c.in-Or.is (c.as_slice-part-items-in-Or.ensures ∙ c.get-in-Or.ensures) _ _ c.loop-part-2-test.true c.part-item-in-loop-part-2.is c.requires)
+pub simple_implication-simple-requires : goal.simple_implication-simple-requires
+simple_implication-simple-requires t c = (omega arith, first_of _ _ c.requires)
 
-pub joined-requires-in-Or : goal.joined-requires-in-Or
-joined-requires-in-Or t c = parts_bank disjunction _ _ _ c.in-Or.is (c.as_slice-part-items-in-Or.ensures ∙ c.get-in-Or.ensures) _ _ (c.as_slice-in-Or.ensures ∙ c.loop-part-2.invariant) c.requires
+pub simple_implication-simple-requires-2 : goal.simple_implication-simple-requires-2
+simple_implication-simple-requires-2 t c = (omega arith, second_of _ _ c.requires)
 
-pub returns-after-loop-part : goal.returns-after-loop-part
-returns-after-loop-part t c =
-    IfOk-weaker c.joined.result _ _ (λ g. chain_end conjunction _ _ _ c.in-And.is (c.as_slice-part-items.ensures ∙ c.get-in-And.ensures) _ _ g c.loop-part-test.false (c.as_slice.ensures ∙ c.loop-part.invariant)) c.joined.ensures
+pub simple_implication-implied-requires : goal.simple_implication-implied-requires
+simple_implication-implied-requires t c = implied_bank _ _ _ _ c.in_ok-a.ensures c.in-Ok.ensures c.requires
 
-pub returns-after-loop-part-2 : goal.returns-after-loop-part-2
-returns-after-loop-part-2 t c =
-    IfOk-weaker c.joined-in-Or.result _ _ (λ g. chain_end disjunction _ _ _ c.in-Or.is (c.as_slice-part-items-in-Or.ensures ∙ c.get-in-Or.ensures) _ _ g c.loop-part-2-test.false (c.as_slice-in-Or.ensures ∙ c.loop-part-2.invariant)) c.joined-in-Or.ensures
+pub simple_chain-simple-requires : goal.simple_chain-simple-requires
+simple_chain-simple-requires t c =
+    let most = no_more _ _ _ _ c.loop-part-test.true c.part-item.is in
+    let less : 2 * form_nodes c.part-item.result < t = omega arith in
+    (less, item_bank _ _ _ c.loop-part-test.true c.part-item.is c.requires)
+
+pub simple_chain-joined-requires : goal.simple_chain-joined-requires
+simple_chain-joined-requires t c = parts_bank _ _ _ (c.as_slice.ensures ∙ c.loop-part.invariant) c.requires

@@ -1,5 +1,5 @@
 use Rattle.std.proofs.Common.{◌∙◌, ap}
-use Rattle.syn_form.specs.Heads.{head_sort}
+use Rattle.syn_form.specs.inner.Heads.{head_sort}
 use Rattle.syn_form.proofs.Sorting.{sort_from_head}
 use Rattle.syn_form.proofs.sorts.sort_in.Goals as goal
 

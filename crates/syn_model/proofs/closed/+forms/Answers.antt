@@ -1,6 +1,7 @@
 use Rattle.std.proofs.Common.{Contains, refl, ◌∙◌}
-use Rattle.syn_model.specs.Closing.{bound_vars}
-use Rattle.syn_model.specs.Declaring.{AreAmong, free_vars}
+use Rattle.syn_model.specs.inner.Closing.{bound_vars}
+use Rattle.syn_form.specs.Quantified.{free_vars}
+use Rattle.syn_model.specs.Declaring.{AreAmong}
 use Rattle.syn_model.proofs.Deciding.{all_hold, first_fails, holds, one_fails, one_more, second_tested, tested}
 use Rattle.syn_model.proofs.Free.{free_atom, free_chain, free_constant, free_equal, free_implies, free_not, free_quantified}
 use Rattle.syn_model.proofs.closed.+forms.Goals as goal

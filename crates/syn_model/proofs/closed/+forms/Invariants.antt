@@ -1,6 +1,7 @@
 use Rattle.std.proofs.Common.{◌+◌, ◌*◌, All, take}
-use Rattle.syn_model.specs.Closing.{bound_vars}
-use Rattle.syn_model.specs.Declaring.{AreAmong, free_vars}
+use Rattle.syn_model.specs.inner.Closing.{bound_vars}
+use Rattle.syn_form.specs.Quantified.{free_vars}
+use Rattle.syn_model.specs.Declaring.{AreAmong}
 use Rattle.syn_model.proofs.closed.+forms.Given as goal
 
 -- a tree is larger than its parts, and the parts come before each of them

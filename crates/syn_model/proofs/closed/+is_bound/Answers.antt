@@ -1,5 +1,5 @@
 use Rattle.std.proofs.Common.{ap, ◌∙◌}
-use Rattle.syn_model.specs.Closing.{bound_vars}
+use Rattle.syn_model.specs.inner.Closing.{bound_vars}
 use Rattle.syn_model.proofs.BoundVars.{bound_vars-Also}
 use Rattle.syn_model.proofs.Free.{bound_outside}
 use Rattle.syn_model.proofs.closed.+is_bound.Goals as goal

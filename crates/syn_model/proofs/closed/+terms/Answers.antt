@@ -1,6 +1,6 @@
 use Rattle.std.proofs.Common.{Contains, sym, ◌∙◌}
 use Rattle.syn_form.specs.Trees.{term_vars}
-use Rattle.syn_model.specs.Closing.{bound_vars}
+use Rattle.syn_model.specs.inner.Closing.{bound_vars}
 use Rattle.syn_model.specs.Declaring.{AreAmong}
 use Rattle.syn_model.proofs.Deciding.{all_hold, one_fails, one_more, tested}
 use Rattle.syn_model.proofs.Over.{over_app, over_var}

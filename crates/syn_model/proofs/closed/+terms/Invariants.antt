@@ -1,6 +1,6 @@
 use Rattle.std.proofs.Common.{◌+◌, ◌*◌, All, take}
 use Rattle.syn_form.specs.Trees.{term_vars}
-use Rattle.syn_model.specs.Closing.{bound_vars}
+use Rattle.syn_model.specs.inner.Closing.{bound_vars}
 use Rattle.syn_model.specs.Declaring.{AreAmong}
 use Rattle.syn_model.proofs.closed.+terms.Given as goal
 

@@ -1,7 +1,7 @@
 use Rattle.std.proofs.Common.{◌≤◌, ℕ, List, All, length}
 use Rattle.std.proofs.Math.ListN.{drop}
 use Rattle.syn_model.specs.declared.decl.Decl.{Decl}
-use Rattle.syn_model.specs.Views.{IsClause}
+use Rattle.syn_model.specs.inner.Views.{IsClause}
 use Rattle.syn_model.proofs.headings.before_clauses.Given as goal
 
 abbrev pub decreases-loop-n : goal.decreases-loop-n

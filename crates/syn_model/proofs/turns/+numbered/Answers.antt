@@ -1,5 +1,5 @@
 use Rattle.std.proofs.Common.{◌∙◌, ap, sym}
-use Rattle.syn_model.specs.Views.{numbered_from}
+use Rattle.syn_model.specs.inner.Views.{numbered_from}
 use Rattle.syn_model.proofs.TurnLaws.{application_vars}
 use Rattle.syn_model.proofs.NumberLaws.{not_numbered, numbered_next}
 use Rattle.syn_model.proofs.turns.+numbered.Goals as goal

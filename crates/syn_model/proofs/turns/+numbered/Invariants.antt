@@ -2,7 +2,7 @@ use Rattle.std.proofs.Common.{◌≡◌, ◌≤◌, ◌+◌, ◌*◌, ◌^◌, �
 use Rattle.std.specs.List.{flat_map}
 use Rattle.syn_term.specs.Terms.{TermTree}
 use Rattle.syn_form.specs.Trees.{term_vars}
-use Rattle.syn_model.specs.Views.{numbered_from}
+use Rattle.syn_model.specs.inner.Views.{numbered_from}
 use Rattle.syn_model.proofs.turns.+numbered.Given as goal
 
 -- a tree is larger than its parts, and the parts come before each of them

@@ -1,7 +1,8 @@
 use Rattle.std.proofs.Common.{◌≡◌, ◌∙◌, subst, List, None, sym}
 use Rattle.std.proofs.lemmas.Result.{on_ok_weaker}
 use Rattle.syn_outside.specs.Files.{file_of}
-use Rattle.syn_outside.specs.Memory.{all_seen, IsPlace}
+use Rattle.syn_outside.specs.Memory.{all_seen}
+use Rattle.syn_outside.specs.inner.Places.{IsPlace}
 use Rattle.syn_outside.proofs.Places.{Stored, put_back, writes_at, writes_end}
 use Rattle.syn_outside.proofs.Results.{on_err}
 use Rattle.syn_outside.proofs.memory_files.put_at.Goals as goal

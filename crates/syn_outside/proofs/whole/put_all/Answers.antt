@@ -12,5 +12,6 @@ loop-done-preserved g c =
       within = omega (arith, c.in-Ok.ensures.text.within);
       adds = adds_more _ _ _ _ _ _ c.loop-done.invariant.adds c.in-Ok.ensures.text.adds;
       later = omega arith;
+      quiet = c.in-Ok.ensures.quiet ∙ c.loop-done.invariant.quiet;
       same = λ none. absurd (omega arith);
     }

@@ -8,6 +8,7 @@ invariant-loop-done g l = record {
   within : l.done ≤ length l.bytes;
   adds : Adds (g.S.Sink.text l.initial.sink) (g.S.Sink.text l.sink) (take l.done l.bytes);
   later : g.S.Sink.faults l.initial.sink ≤ g.S.Sink.faults l.sink;
+  quiet : g.S.Sink.faults l.sink ≡ g.S.Sink.faults l.initial.sink;
   same : l.done ≡ 0 → l.sink ≡ l.initial.sink;
 }
 

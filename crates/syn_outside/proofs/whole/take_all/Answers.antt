@@ -13,5 +13,6 @@ loop-buffer-preserved g c = record {
   begins = begins_more _ _ _ _ _ _ c.loop-buffer.invariant.files c.loop-buffer.invariant.begins c.in-Ok.ensures.bytes;
   files = c.take_part.ensures.files ∙ c.loop-buffer.invariant.files;
   writes = c.take_part.ensures.writes ∙ c.loop-buffer.invariant.writes;
+  quiet = c.in-Ok.ensures.quiet ∙ c.loop-buffer.invariant.quiet;
   later = omega arith;
 }

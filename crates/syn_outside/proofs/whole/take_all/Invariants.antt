@@ -1,5 +1,5 @@
 use Rattle.std.proofs.Common.{◌≡◌, ◌+◌, ◌-◌, ◌≤◌, length}
-use Rattle.syn_outside.specs.Whole.{IsBeginning}
+use Rattle.syn_outside.specs.inner.Whole.{HasTaken}
 use Rattle.syn_outside.proofs.whole.take_all.Given as goal
 
 -- Each turn so far took a byte at least, and what was taken is the file's beginning.
@@ -7,9 +7,10 @@ abbrev pub invariant-loop-buffer : goal.invariant-loop-buffer
 invariant-loop-buffer g l = record {
   turns : l.turns ≤ length l.bytes.items;
   bound : l.turns ≤ l.limit + 1;
-  begins : IsBeginning (g.C.Cabinet.files l.initial.cab) l.name l.bytes.items;
+  begins : HasTaken (g.C.Cabinet.files l.initial.cab) l.name l.bytes.items;
   files : g.C.Cabinet.files l.cab ≡ g.C.Cabinet.files l.initial.cab;
   writes : g.C.Cabinet.write_faults l.cab ≡ g.C.Cabinet.write_faults l.initial.cab;
+  quiet : g.C.Cabinet.read_faults l.cab ≡ g.C.Cabinet.read_faults l.initial.cab;
   later : g.C.Cabinet.read_faults l.initial.cab ≤ g.C.Cabinet.read_faults l.cab;
 }
 

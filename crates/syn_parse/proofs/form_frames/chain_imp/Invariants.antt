@@ -1,5 +1,5 @@
 use Rattle.std.proofs.Common.{◌≡◌, length}
-use Rattle.syn_parse.specs.FormMachine as machine
+use Rattle.syn_parse.specs.inner.FormMachine as machine
 use Rattle.syn_parse.proofs.form_frames.chain_imp.Given as goal
 
 abbrev pub invariant-loop-left : goal.invariant-loop-left

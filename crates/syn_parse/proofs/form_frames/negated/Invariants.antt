@@ -1,5 +1,5 @@
 use Rattle.std.proofs.Common.{◌≡◌, ◌-◌}
-use Rattle.syn_parse.specs.FormMachine as machine
+use Rattle.syn_parse.specs.inner.FormMachine as machine
 use Rattle.syn_parse.proofs.form_frames.negated.Given as goal
 
 abbrev pub invariant-loop : goal.invariant-loop

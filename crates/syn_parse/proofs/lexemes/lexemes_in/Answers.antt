@@ -2,7 +2,7 @@ use Rattle.std.proofs.Common.{◌+◌, take, get_or, sym, subst, arith}
 use Rattle.syn_term.specs.declared.tokens.TokenKind.TheVariants as kind
 use Rattle.syn_lex.specs.declared.token.Token.{Token}
 use Rattle.syn_lex.specs.Lexing.{word_of, words_of}
-use Rattle.syn_parse.specs.Lexemes.{Spell}
+use Rattle.syn_parse.specs.inner.Spelling.{Spell}
 use Rattle.syn_parse.proofs.TokenLists.{answer_none, answer_some, spell_more, spell_none}
 use Rattle.syn_parse.proofs.lexemes.lexemes_in.Goals as goal
 

@@ -2,7 +2,7 @@ use Rattle.std.proofs.Common.{List, ℕ, All, map, sym, subst}
 use Rattle.syn_term.specs.Tokens.{Spelled}
 use Rattle.syn_lex.specs.Lexing.{Refused}
 use Rattle.syn_form.specs.Grammar.{spelling}
-use Rattle.syn_parse.specs.Lexemes.{IsInside}
+use Rattle.syn_parse.specs.inner.Spelling.{IsInside}
 use Rattle.syn_parse.proofs.NotSpelled.{stuck_none, lexed_inside}
 use Rattle.syn_parse.proofs.lexemes.lexemes_of.Goals as goal
 

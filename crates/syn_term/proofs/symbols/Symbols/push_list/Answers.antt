@@ -1,11 +1,11 @@
-use Rattle.std.proofs.Common.{ap, sym, subst}
-use Rattle.syn_term.specs.SymbolKeys.{IsNew}
-use Rattle.syn_term.proofs.SortLemmas.{new_of_name}
+use Rattle.std.proofs.Common.{subst}
+use Rattle.syn_term.specs.DeclaredSorts.{IsTable}
+use Rattle.syn_term.proofs.Indexed.{list_table}
+use Rattle.syn_term.proofs.TableLaws.{table_list}
 use Rattle.syn_term.proofs.symbols.Symbols.push_list.Goals as goal
 
-pub push_two-requires-clause-free : goal.push_two-requires-clause-free
-push_two-requires-clause-free c = (
-  subst (IsNew c.args.self.now) (sym c.in_ok-from_str.ensures) (new_of_name c.args.self.now c.args.name.now c.requires.named.0 c.requires.free.0),
-  subst (IsNew c.args.self.now) (sym (ap (λ s. s.name) c.in_ok-nil.ensures.1)) (new_of_name c.args.self.now c.args.nil.now c.requires.named.1 c.requires.free.1),
-  subst (IsNew c.args.self.now) (sym (ap (λ s. s.name) c.in_ok-cons.ensures.1)) (new_of_name c.args.self.now c.args.cons.now c.requires.named.2 c.requires.free.2),
-)
+pub push_two-requires-clause-table : goal.push_two-requires-clause-table
+push_two-requires-clause-table c =
+    list_table c.args.self.now _ c.args.name.now c.args.nil.now c.args.cons.now c.in_ok-sort.first c.in_ok-sort.second c.args.item c.in_ok-sort.sort _ _
+    c.in_ok-from_str.ensures c.in_ok-sort.ensures.sort.0 c.in_ok-sort.ensures.symbols.0 c.in_ok-sort.ensures.symbols.1 c.in-Ok.ensures.nil.1 c.in-Ok.ensures.cons.1
+    (table_list c.args.self.now c.args.name.now c.args.nil.now c.args.cons.now c.args.item (subst IsTable c.self.view_is c.self.invariant.table) c.requires)

@@ -1,11 +1,16 @@
-use Rattle.std.proofs.Common.{◌∙◌, ap, sym, subst}
-use Rattle.syn_term.specs.SymbolKeys.{IsNew}
-use Rattle.syn_term.proofs.SortLemmas.{new_of_name}
+use Rattle.std.proofs.Common.{ap, subst}
+use Rattle.syn_term.specs.DeclaredSorts.{IsTable}
+use Rattle.syn_term.proofs.Indexed.{tuple_sized, tuple_table}
+use Rattle.syn_term.proofs.TableLaws.{table_tuple}
 use Rattle.syn_term.proofs.symbols.Symbols.push_tuple.Goals as goal
 
-pub push_one-requires-clause-free : goal.push_one-requires-clause-free
-push_one-requires-clause-free c = (
-  subst (IsNew c.args.self.now) (sym c.in_ok-from_str.ensures) (new_of_name c.args.self.now c.args.name.now c.requires.named.0 c.requires.free.0),
-  subst (IsNew c.args.self.now) (sym (ap (λ s. s.name) c.in_ok-make.ensures.1)) (new_of_name c.args.self.now c.args.make.now c.requires.named.1 c.requires.free.1),
-  λ e. c.requires.distinct (sym c.in_ok-from_str.ensures ∙ (e ∙ ap (λ s. s.name) c.in_ok-make.ensures.1)),
-)
+pub push_one-requires-clause-table : goal.push_one-requires-clause-table
+push_one-requires-clause-table c =
+    tuple_table c.args.self.now c.in_ok-named.named c.args.name.now c.args.make.now c.in_ok-sort.first c.args.parts.now c.in_ok-sort.sort c.in-Ok.make.1
+    c.in_ok-sort.ensures.sort.0 c.in_ok-sort.ensures.symbols.0 c.in_ok-named.ensures c.in-Ok.ensures.1
+    (table_tuple c.args.self.now c.args.name.now c.args.make.now c.args.parts.now (subst IsTable c.self.view_is c.self.invariant.table) c.requires)
+
+pub push_one-requires-clause-sized : goal.push_one-requires-clause-sized
+push_one-requires-clause-sized c =
+    tuple_sized c.args.self.now c.self.inside.sizes c.as_slice.result.now c.self.inside.sorts c.args.parts.now c.tuple_size-size.result c.in_ok-named.named c.args.name.now c.in_ok-sort.first
+    c.as_slice.ensures c.self.invariant.sized (ap (λ t. t.sorts) c.self.view_is) c.tuple_size-size.ensures c.requires.small c.in_ok-named.ensures

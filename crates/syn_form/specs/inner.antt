@@ -1,0 +1,4 @@
+pub mod Joining
+pub mod NotedSorts
+pub mod Heads
+pub mod BinderNumbers

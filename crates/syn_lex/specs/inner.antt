@@ -1,0 +1,2 @@
+-- Inner. What private contracts alone cite.
+pub mod Finding
