@@ -4,6 +4,10 @@
 #![tactic(auto)]
 
 #[cfg(test)]
+mod codes;
+#[cfg(test)]
+mod formulas;
+#[cfg(test)]
 mod lines;
 #[cfg(test)]
 mod names;
@@ -11,6 +15,8 @@ mod names;
 mod outside;
 #[cfg(test)]
 mod positions;
+#[cfg(test)]
+mod simplification;
 #[cfg(test)]
 mod sorts;
 #[cfg(test)]

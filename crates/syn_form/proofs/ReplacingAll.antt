@@ -1,5 +1,5 @@
 -- What replacing subformulas by a truth value keeps: truth, where they have that value, plainness, terms and variables.
-use Rattle.std.proofs.Common.{◌≡◌, ◌≤◌, Result, IfOk, Bool, true, false, not, ◌||◌, List, [], ◌∷◌, ◌++◌, All, Contains, map, length, refl, sym, ◌∙◌, ap, subst}
+use Rattle.std.proofs.Common.{◌≡◌, ◌≤◌, Result, IfOk, Bool, true, false, not, ◌||◌, List, [], ◌∷◌, ◌++◌, All, Contains, map, refl, sym, ◌∙◌, ap, subst}
 use Rattle.std.specs.List.{flat_map, list_all, list_any}
 use Rattle.std.proofs.lemmas.List.{length-map}
 use Rattle.std.proofs.lemmas.List.Elements.{All-nil, All-cons, All-head, All-tail}
@@ -7,11 +7,9 @@ use Rattle.std.proofs.lemmas.Result.{IfOk-weaker}
 use Rattle.syn_term.specs.declared.sorts.Var.{Var}
 use Rattle.syn_term.specs.Symbols.{SymbolTable}
 use Rattle.syn_term.specs.Terms.{TermTree}
-use Rattle.syn_form.specs.declared.trees.Form.TheVariants as form
 use Rattle.syn_form.specs.declared.trees.Form.TheViews as view
 use Rattle.syn_form.specs.Trees.{FormTree, form_terms, form_terms_step, form_vars, term_vars}
-use Rattle.syn_form.specs.Same.{same_form}
-use Rattle.syn_form.specs.Plain.{IsFormed, IsPlainForm, PlainFormNode}
+use Rattle.syn_form.specs.Plain.{IsFormed, PlainFormNode}
 use Rattle.syn_form.specs.Truth.{Assignment, truth_value, truth_value_step}
 use Rattle.syn_form.specs.Simplification.{Junction, conjunction, disjunction, chain}
 use Rattle.syn_form.specs.Replacing.{replaced_all, truth_form}

@@ -1,5 +1,5 @@
 -- Induction on a formula and what it becomes when its subformulas are replaced.
-use Rattle.std.proofs.Common.{◌≡◌, Bool, true, false, List, All, map, refl, sym, ap, subst}
+use Rattle.std.proofs.Common.{◌≡◌, Bool, true, false, List, All, map, refl, sym, subst}
 use Rattle.syn_term.specs.declared.sorts.SymId.{SymId}
 use Rattle.syn_term.specs.Terms.{TermTree}
 use Rattle.syn_form.specs.declared.trees.Form.TheVariants as form

@@ -1,10 +1,7 @@
 -- What a formula becomes whose subformulas are replaced by a truth value, and what that keeps.
-use Rattle.std.proofs.Common.{◌≡◌, Bool, true, false, not, ◌||◌, List, [], ◌∷◌, ◌++◌, All, Contains, map, cond, refl, sym, ◌∙◌, ap, subst, rules}
-use Rattle.std.specs.List.{flat_map, list_all, list_any}
-use Rattle.std.proofs.lemmas.List.Elements.{All-nil, All-cons, All-head, All-tail}
+use Rattle.std.proofs.Common.{◌≡◌, Bool, true, false, List, [], ◌∷◌, All, map, cond, refl, sym, ◌∙◌, ap}
+use Rattle.std.proofs.lemmas.List.Elements.{All-head, All-tail}
 use denote.Hole.Carrier.{roll}
-use Rattle.syn_term.specs.declared.sorts.SymId.{SymId}
-use Rattle.syn_term.specs.Terms.{TermTree}
 use Rattle.syn_form.specs.declared.trees.Form.{Form, out-Form, roll-Form, map-Form, fold-Form, fold_out-Form}
 use Rattle.syn_form.specs.declared.trees.Form.TheOpen.{Form-F}
 use Rattle.syn_form.specs.declared.trees.Form.TheVariants as form

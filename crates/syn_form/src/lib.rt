@@ -30,7 +30,7 @@ pub use quantified::is_formed_qform;
 pub use replacing::replace_all;
 pub use signs::polarity;
 pub use simplifying::{simplify, simplify_out};
-pub use sorts::{are_of_one_sort, given_sort, have_sorts, is_atom, sort_in};
+pub use sorts::{are_of_one_sort, given_sort, is_atom};
 pub use syntax::{
     BinderSyntax, FormSyntax, HeadName, Lexeme, Mark, OutSyntax, Quantifier, TermSyntax,
 };

@@ -20,6 +20,7 @@ pub mod TokenLaws
 pub mod TokenBegins
 pub mod WholeTokens
 pub mod StartCases
+pub mod Accounts
 pub mod Spaced
 pub mod BeginsCases
 pub mod OneSpelling
