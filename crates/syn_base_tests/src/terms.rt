@@ -26,7 +26,7 @@ fn assert_variable<R: Abort>(rt: &R, syms: &Symbols, term: &Term) {
 
 fn assert_one<R: Abort>(rt: &R, syms: &Symbols, one: &Term) {
     assert_eq!(rt; one.head(), Head::Sym(SUCC));
-    assert_eq!(rt; one.sort(syms), Sort::Nat);
+    assert_eq!(rt; one.sort_in(syms), Some(Sort::Nat));
     assert_eq!(rt; (one.size(10), one.size(1), one.size(0)), (2, 2, 1));
     assert_eq!(rt; (one.depth(10), one.depth(1), one.depth(0)), (2, 2, 1));
     assert!(rt; one.arg(0).is_none());
