@@ -127,8 +127,8 @@ fn made_for(alloc: Global, syms: &Symbols, row: &str) -> Result<Option<u64>, Fai
     };
     let pos = position(alloc, path)?;
     let mut bank = Bank::new(alloc);
-    let new = bank.var(alloc, v)?;
     let t = twice(alloc, &mut bank, syms)?;
+    let new = bank.var(alloc, v)?;
     let before = bank.made();
     let Some(replaced) = bank.replace_at(alloc, syms, &t, &pos, &new)? else {
         return Ok(None);
@@ -163,8 +163,8 @@ fn deep(alloc: Global, depth: u32, v: Var) -> Result<(Option<Head>, Option<Head>
         pos.push(1)?;
     }
     let mut bank = Bank::new(alloc);
-    let new = bank.var(alloc, v)?;
     let t = number(alloc, &mut bank, &syms, depth)?;
+    let new = bank.var(alloc, v)?;
     let before = bank.made();
     match bank.replace_at(alloc, &syms, &t, &pos, &new)? {
         None => Err(Fail::new("no place")),

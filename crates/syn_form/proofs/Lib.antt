@@ -35,3 +35,7 @@ pub mod ReplacingParts
 pub mod ReplacingCases
 pub mod ReplacingAll
 pub mod ReplacingEnds
+pub mod InputTerms
+pub mod MadeTerms
+pub mod OnTerms
+pub mod PutInputs

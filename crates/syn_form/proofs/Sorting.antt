@@ -128,10 +128,10 @@ module _ (table : SymbolTable) (f : SymId) (args : List TermTree) where
   pub atom_decided : IsTrue (makes_atom table f args) ↔ IsAtom table f args
   atom_decided = (atom_of, makes_atom_of)
 
-sort_of-application : (table : SymbolTable) (p : Place) (f : SymId) (xs : List Node) → sort_of table (view.App p f xs) ≡ result_of table f
+pub sort_of-application : (table : SymbolTable) (p : Place) (f : SymId) (xs : List Node) → sort_of table (view.App p f xs) ≡ result_of table f
 sort_of-application table p f xs = let e : out-Node (view.App p f xs) ≡ Node-F.App p f xs = search (rules, the_lemmas) in rw e refl
 
-sort_of-variable : (table : SymbolTable) (p : Place) (v : Var) → sort_of table (node.Var p v) ≡ Some v.sort
+pub sort_of-variable : (table : SymbolTable) (p : Place) (v : Var) → sort_of table (node.Var p v) ≡ Some v.sort
 sort_of-variable table p v = let e : out-Node (node.Var p v) ≡ Node-F.Var p v = search (rules, the_lemmas) in rw e refl
 
 module _ (table : SymbolTable) where

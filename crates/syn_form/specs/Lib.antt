@@ -17,4 +17,6 @@ pub mod Elaboration
 pub mod Texts
 pub mod Replacing
 pub mod ReplacingLaws
+pub mod Inputs
+pub mod InputLaws
 pub mod inner

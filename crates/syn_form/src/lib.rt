@@ -7,6 +7,7 @@
 mod binders;
 mod form;
 mod formed;
+mod inputs;
 mod joins;
 mod numbers;
 mod output;
@@ -23,6 +24,7 @@ mod trees;
 mod vars;
 
 pub use formed::{is_formed_form, is_formed_out};
+pub use inputs::put_inputs;
 pub use plain::{is_plain_form, is_plain_out, is_plain_qform};
 pub use quantified::is_formed_qform;
 pub use replacing::replace_all;

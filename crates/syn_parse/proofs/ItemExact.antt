@@ -1,5 +1,5 @@
 -- What the words of a text are read to: items that have these words, or none where no reading has them.
-use Rattle.std.proofs.Common.{◌≡◌, ℕ, List, [], ◌∷◌, All, Option, None, Some, MatchOption, option_and_then, sym, ◌∙◌, ap}
+use Rattle.std.proofs.Common.{◌≡◌, ℕ, List, [], ◌∷◌, All, Some, option_and_then, sym, ◌∙◌, ap}
 use Rattle.std.proofs.lemmas.Option.{option_and_then_some}
 use Rattle.std.proofs.lemmas.List.Elements.{All-nil, All-cons, All-head, All-tail}
 use Rattle.syn_form.specs.declared.syntax.Mark.{Mark}
@@ -13,12 +13,10 @@ use Rattle.syn_parse.specs.declared.items.Item.TheVariants as item
 use Rattle.syn_parse.specs.inner.Items.{items_of_form, items_of_out, words_of_items}
 use Rattle.syn_parse.specs.inner.PhraseMachine.{phrases_of}
 use Rattle.syn_parse.specs.inner.ItemMachine.{items_of}
-use Rattle.syn_parse.specs.Written.{Written, WrittenForm, WrittenOut}
 use Rattle.syn_parse.specs.inner.Spelling.{NotNat}
 use Rattle.syn_parse.proofs.ItemTexts.{words_of_items-form, words_of_items-out, words_of_items-term}
 use Rattle.syn_parse.proofs.PhraseSound.{phrases_sound}
 use Rattle.syn_parse.proofs.ItemSound.{items_sound}
-use Rattle.syn_parse.proofs.ItemComplete.{complete_form, complete_out, complete_term}
 
 -- the items have the words that they were read from
 pub words_sound : (ls : List Lexeme) (is : List Item) → All NotNat ls → option_and_then items_of (phrases_of ls) ≡ Some is → words_of_items is ≡ ls

@@ -20,7 +20,6 @@ use Rattle.syn_form.specs.declared.syntax.TermSyntax.TheViews as view
 use Rattle.syn_form.specs.Grammar.{fixed, head_lexeme, with_commas, quantifier_mark, sort_lexeme, words_of_binder, words_of_quantifier, words_of_term, words_of_args}
 use Rattle.syn_parse.specs.declared.phrase_reader.Phrase.{Phrase}
 use Rattle.syn_parse.specs.declared.phrase_reader.Phrase.TheVariants as phrase
-use Rattle.syn_parse.specs.declared.phrase_reader.BinderStage.{BinderStage}
 use Rattle.syn_parse.specs.declared.phrase_reader.BinderStage.TheVariants as stage
 use Rattle.syn_parse.specs.declared.phrase_reader.PhraseReader.{PhraseReader}
 use Rattle.syn_parse.specs.declared.items.Item.{Item}
