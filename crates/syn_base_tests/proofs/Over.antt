@@ -1,8 +1,7 @@
 -- What the formulas of codes are made of stays over the pair, and what is over a pair of one bank is of one bank.
-use Rattle.std.proofs.Common.{◌≡◌, ◌⊎◌, inl, inr, List, [], ◌∷◌, ◌++◌, All, Contains, refl, sym, ◌∙◌, ap, subst, arith}
+use Rattle.std.proofs.Common.{◌≡◌, ◌⊎◌, inl, inr, List, [], ◌∷◌, ◌++◌, All, Contains, refl, sym, ◌∙◌, ap, subst}
 use Rattle.std.specs.List.{flat_map}
 use Rattle.std.proofs.lemmas.List.Elements.{All-nil, All-cons, All-head, All-tail, All-append, Contains-append_cases, Contains-append_left, Contains-append_right}
-use Rattle.syn_term.specs.declared.sorts.SymId.{SymId}
 use Rattle.syn_term.specs.Bank.{Kept, Belongs, Belongs-extends, Extends, new_bank}
 use Rattle.syn_term.specs.Terms.{TermTree}
 use Rattle.syn_form.specs.declared.trees.Form.TheVariants as form
@@ -10,8 +9,7 @@ use Rattle.syn_form.specs.declared.trees.Form.TheViews as view
 use Rattle.syn_form.specs.declared.trees.Out.TheVariants as out
 use Rattle.syn_form.specs.declared.trees.Out.TheViews as out_view
 use Rattle.syn_form.specs.Same.{OfOneBank, OfOneBank-from}
-use Rattle.syn_form.specs.SimplificationLaws.{SimplifiesForm, SimplifiesOut}
-use Rattle.syn_form.specs.Simplification.{Junction, conjunction, disjunction, chain}
+use Rattle.syn_form.specs.Simplification.{Junction, chain}
 use Rattle.syn_form.specs.Trees.{FormTree, OutTree, form_terms, out_terms}
 use Rattle.syn_form.proofs.Equations.{form_terms-True, form_terms-False, form_terms-Not, form_terms-Implies, out_terms-Give, out_terms-If}
 use Rattle.syn_form.proofs.Lists.{Contains-along, Contains-cons_cases, Contains-head, none_in_nil}

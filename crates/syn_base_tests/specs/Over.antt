@@ -1,5 +1,5 @@
 -- Inner. Formulas and outputs whose terms are those of a pair.
-use Rattle.std.specs.Prelude.{List, [], ◌∷◌, Contains}
+use Rattle.std.specs.Prelude.{[], ◌∷◌, Contains}
 use Rattle.syn_base_tests.specs.declared.codes.Pair.{Pair}
 use Rattle.syn_form.specs.Trees.{FormTree, OutTree, form_terms, out_terms}
 use Rattle.syn_term.specs.Terms.{TermTree}

@@ -25,12 +25,18 @@ pub struct Texts<'a> {
     pub deriv: &'a [u8],
 }
 
+const THEORY: &str = "theory empty\n";
+
+const SPEC: &str = "spec same\nprogram same(a: nat): z: nat\nensures z = a\n";
+
+const DERIV: &str = "derivation 1\n1 goal: goal ?1 = a | ?1\n2 reflex 1 -: goal true | a\n";
+
 /// The files of the identity.
 pub fn identity() -> Texts<'static> {
     Texts {
-        theory: b"theory empty\n",
-        spec: b"spec same\nprogram same(a: nat): z: nat\nensures z = a\n",
-        deriv: b"derivation 1\n1 goal: goal ?1 = a | ?1\n2 reflex 1 -: goal true | a\n",
+        theory: THEORY.as_bytes(),
+        spec: SPEC.as_bytes(),
+        deriv: DERIV.as_bytes(),
     }
 }
 
@@ -216,9 +222,9 @@ fn unmarked(alloc: Global, text: &str) -> Result<Vec<u8>, AllocError> {
 }
 
 /// The part, unless it stands for the usual one.
-fn part<'a>(part: &'a [u8], usual: &'a [u8]) -> &'a [u8] {
+fn part<'a>(part: &'a [u8], usual: &'static str) -> &'a [u8] {
     match part {
-        [b'='] => usual,
+        [b'='] => usual.as_bytes(),
         _ => part,
     }
 }
@@ -235,13 +241,15 @@ fn halves(bytes: &[u8]) -> (&[u8], &[u8]) {
 
 /// The three files that the bytes say.
 fn texts_in(bytes: &[u8]) -> Texts<'_> {
-    let usual = identity();
     let (theory, others) = halves(bytes);
     let (spec, deriv) = halves(others);
+    let theory = part(theory, THEORY);
+    let spec = part(spec, SPEC);
+    let deriv = part(deriv, DERIV);
     Texts {
-        theory: part(theory, usual.theory),
-        spec: part(spec, usual.spec),
-        deriv: part(deriv, usual.deriv),
+        theory,
+        spec,
+        deriv,
     }
 }
 
