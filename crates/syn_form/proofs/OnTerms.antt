@@ -11,7 +11,7 @@ use Rattle.syn_term.specs.Terms.{TermTree, bare, nodes}
 use Rattle.syn_form.specs.declared.trees.Form.TheVariants as form
 use Rattle.syn_form.specs.declared.trees.Form.TheViews as view
 use Rattle.syn_form.specs.Inputs.{on_terms, on_terms_step, terms_size}
-use Rattle.syn_form.specs.Joining.{terms_of}
+use Rattle.syn_form.specs.inner.Joining.{terms_of}
 use Rattle.syn_form.specs.Simplification.{Junction, conjunction, disjunction, chain}
 use Rattle.syn_form.specs.Trees.{FormTree, form_nodes, bare_form, bare_form_step, form_terms}
 use Rattle.syn_form.proofs.Equations.{fold-True, fold-False, fold-Atom, fold-Equal, fold-Not, fold-And, fold-Or, fold-Implies, bare_form-Atom, bare_form-Equal, bare_form-Not, bare_form-Implies, form_nodes-Not, form_terms-Atom, form_terms-Equal, form_terms-Not, form_terms-Implies}

@@ -6,7 +6,7 @@ ghost use Rattle.syn_term.specs.Bank.{Belongs, Extends};
 ghost use Rattle.syn_term.specs.Terms.{bare, nodes};
 ghost use Rattle.syn_form.specs.Inputs.{AreInputs, InputsBelong, form_with_inputs, listed_term, terms_size, with_inputs};
 ghost use Rattle.syn_form.specs.InputLaws.{PutsInputs};
-ghost use Rattle.syn_form.specs.Joining.{terms_of};
+ghost use Rattle.syn_form.specs.inner.Joining.{terms_of};
 ghost use Rattle.syn_form.specs.Plain.{IsFormed, IsSorted};
 ghost use Rattle.syn_form.specs.Trees.{bare_form, form_terms};
 

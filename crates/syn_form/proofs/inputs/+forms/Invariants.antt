@@ -1,7 +1,7 @@
 use Rattle.std.proofs.Common.{◌≡◌, ◌≤◌, ◌+◌, ◌*◌, All, map, sum, take}
 use Rattle.syn_term.specs.Bank.{Belongs, Extends}
 use Rattle.syn_form.specs.Inputs.{form_with_inputs, terms_size}
-use Rattle.syn_form.specs.Joining.{terms_of}
+use Rattle.syn_form.specs.inner.Joining.{terms_of}
 use Rattle.syn_form.specs.Trees.{bare_form, form_nodes}
 use Rattle.syn_form.proofs.inputs.+forms.Given as goal
 
