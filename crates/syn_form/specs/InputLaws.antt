@@ -1,4 +1,4 @@
--- What putting terms in place of input symbols does to a formula, for whoever only needs that much.
+-- Public. What putting terms in place of input symbols does to a formula, for whoever only needs that much.
 use Rattle.std.specs.Prelude.{◌≡◌, ◌⊎◌, List, ◌++◌, All, Contains, map}
 use Rattle.std.specs.List.{flat_map}
 use Rattle.syn_term.specs.declared.sorts.Var.{Var}

@@ -1,4 +1,4 @@
--- Terms and formulas with terms in place of input symbols.
+-- Public. Terms and formulas with terms in place of input symbols.
 use Rattle.std.specs.Prelude.{◌≡◌, ℕ, sum, List, [], ◌∷◌, All, map, nat_eq, Option, None, Some, if◌then◌else◌}
 use Rattle.std.specs.Option.{unwrap_or}
 use Rattle.syn_term.specs.Bank.{Kept, Belongs}

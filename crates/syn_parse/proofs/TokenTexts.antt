@@ -77,7 +77,7 @@ bare_word text = ap (λ (z : List ℕ). word kind.RowVar (63 ∷ z)) (append-nil
 pub sorted_word : (text : List ℕ) (digits after : Bor (List ℕ)) → IsSplitOnceResult 58 text (Some (digits, after)) → row_word digits.now (58 ∷ after.now) ≡ word kind.RowVar (63 ∷ text)
 sorted_word text digits after cut = ap (λ (z : List ℕ). word kind.RowVar (63 ∷ z)) (sym (split_parts 58 text (Some (digits, after)) cut (omega arith)).0)
 
--- what is spelled by what words
+-- words of other kinds are no signs
 
 name_no_sign : kind.Name ≡ kind.Sign → ⊥
 name_no_sign e = cc
