@@ -6,8 +6,8 @@ use std::process::Abort;
 use std::test::Fail;
 use syn_expr::{ExprError, Scope, read_form, read_out, read_qform, read_term};
 use syn_form::{Form, Mono, Out, QForm};
-use syn_term::{Bank, NoMemory, Sort, SymId, Term, Text, Var};
 use syn_model::{Decl, DeclError, Theory};
+use syn_term::{Bank, NoMemory, Sort, SymId, Term, Text, Var};
 
 const NAT: Sort = Sort::Nat;
 

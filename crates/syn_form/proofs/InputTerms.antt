@@ -70,7 +70,7 @@ module _ (table : SymbolTable) (inputs : Inputs) (are : AreInputs table inputs) 
       let h = ((application_sorted table t p f args args args is refl refl).0 sorted).0.0 in
       let m : map (sort_of table) parts ≡ map (sort_of table) args =
       sym (sorts_bare table parts) ∙ (ap (map (sort_of table)) e ∙ (sorts_bare table (map (with_inputs inputs) xs) ∙ (sorts_put xs ∙ ap (map (sort_of table)) same))) in
-      record { sym = h.sym; is = h.is; no_relation = h.no_relation; no_order = h.no_order; sorts = m ∙ h.sorts; }
+      record { sym = h.sym; is = h.is; no_relation = h.no_relation; no_order = h.no_order; sorts = m ∙ h.sorts }
 
 -- an application that was refused although it may be made
 pub refused : (o : Option TermTree) (A : Type 0) (B : TermTree → Type 0) → o ≡ None → MatchOption o (¬ A) B → A → ⊥

@@ -47,7 +47,7 @@ module _ (table : SymbolTable) (g : TermTree → TermTree) (sort : (t : TermTree
   at_atom : (r : SymId) (args : List TermTree) → IsFormed table (form.Atom r args) → IsFormed table (on_terms g (form.Atom r args))
   at_atom r args h =
       let k = (atom_formed table (form.Atom r args) r args args refl refl).0 h in
-      let a : IsAtom table r (map g args) = record { sym = k.0.sym; is = k.0.is; relation = k.0.relation; sorts = sorts_all args ∙ k.0.sorts; } in
+      let a : IsAtom table r (map g args) = record { sym = k.0.sym; is = k.0.is; relation = k.0.relation; sorts = sorts_all args ∙ k.0.sorts } in
       along (form.Atom r args) (form.Atom r (map g args)) (fold-Atom (on_terms_step g) r args) (every-Atom (PlainFormNode table) r (map g args) (a, sorted_all args k.1))
 
   at_equal : (s t : TermTree) → IsFormed table (form.Equal s t) → IsFormed table (on_terms g (form.Equal s t))
@@ -102,16 +102,16 @@ module _ (table : SymbolTable) (inputs : Inputs) (are : AreInputs table inputs) 
   at_symbol f xs h k (Some t) e = listed_entry (λ g u. IsSorted table u) inputs f t e sorted
 
   applied : (f : SymId) (args : List TermTree) → IsApplication table f args → IsApplication table f (map (with_inputs inputs) args)
-  applied f args h = record { sym = h.sym; is = h.is; no_relation = h.no_relation; no_order = h.no_order; sorts = sorts_put table inputs are args ∙ h.sorts; }
+  applied f args h = record { sym = h.sym; is = h.is; no_relation = h.no_relation; no_order = h.no_order; sorts = sorts_put table inputs are args ∙ h.sorts }
 
   pub sorted_put : (t : TermTree) → IsSorted table t → IsSorted table (with_inputs inputs t)
   sorted_put = by_term_cases Stays
       (λ p v h. subst (IsSorted table) (sym (fold-Var (with_inputs_step inputs) p v)) (every-Var (SortedNode table) nowhere v (node-Var (SortedNode table) p v h)))
       (λ p f args stay h.
-          let n = node-App (SortedNode table) p f args h in
-          let k = parts-App (SortedNode table) p f args h in
-          let parts : All (IsSorted table) (map (with_inputs inputs) args) = All-map (IsSorted table) (with_inputs inputs) args (λ i d lt. stay i d lt (k i d lt)) in
-          subst (IsSorted table) (sym (fold-App (with_inputs_step inputs) p f args)) (at_symbol f (map (with_inputs inputs) args) (applied f args n.0, n.1) parts (listed_term inputs f) refl))
+      let n = node-App (SortedNode table) p f args h in
+      let k = parts-App (SortedNode table) p f args h in
+      let parts : All (IsSorted table) (map (with_inputs inputs) args) = All-map (IsSorted table) (with_inputs inputs) args (λ i d lt. stay i d lt (k i d lt)) in
+      subst (IsSorted table) (sym (fold-App (with_inputs_step inputs) p f args)) (at_symbol f (map (with_inputs inputs) args) (applied f args n.0, n.1) parts (listed_term inputs f) refl))
 
   pub form_put-formed : (f : FormTree) → IsFormed table f → IsFormed table (form_with_inputs inputs f)
   form_put-formed = on_terms-formed table (with_inputs inputs) (sort_put table inputs are) sorted_put

@@ -117,4 +117,3 @@ put_in_forms-loop-f-preserved t c = record {
   extends = Extends-trans _ _ _ c.loop-f.invariant.extends c.put_in_form.ensures.extends;
   belongs = terms_more _ _ _ _ _ c.put_in_form.ensures.extends c.loop-f.invariant.belongs c.in_ok-put_in_form.ensures.belongs c.in_ok-push.ensures.ok;
 }
-
