@@ -3,7 +3,7 @@
 ghost use Rattle.std.specs.Prelude.{◌≡◌, ◌++◌, [], List, IfOk, MatchOption, All, codes};
 ghost use Rattle.syn_term.specs.declared.tokens.TokenKind.TheVariants as kind;
 ghost use Rattle.syn_term.specs.Tokens.{IsToken, IsRowVariable};
-ghost use Rattle.syn_lex.specs.Lexing.{IsWhole, bytes_of, words_of, word_of};
+ghost use Rattle.syn_lex.specs.Lexing.{IsLongestToken, bytes_of, words_of, word_of};
 ghost use Rattle.syn_form.specs.declared.syntax.Lexeme.{Lexeme};
 ghost use Rattle.syn_parse.specs.Lexemes.{IsWritten};
 ghost use Rattle.syn_parse.specs.inner.Spelling.{IsInside, NoLexeme, NoMark, NoNumber, Spell, Spells, row_word, word};
@@ -114,7 +114,7 @@ fn token_lexeme(alloc: Global, line: &[u8], token: Token) -> Result<Option<Lexem
 
 /// The lexemes that the tokens of a line are; None where one of them is no lexeme.
 fn lexemes_in(alloc: Global, line: &[u8], found: &[Token]) -> Result<Option<Row<Lexeme>>, NoMemory>
-    requires whole { All (IsWhole line.now) found.now }
+    requires whole { All (IsLongestToken line.now) found.now }
     requires inside { All (IsInside line.now) found.now }
     ensures { IfOk result (λ o. MatchOption o ((ls : List Lexeme) → Spell (words_of line.now found.now) ls → ⊥) (Spell (words_of line.now found.now))) }
 {
