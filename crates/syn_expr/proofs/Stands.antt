@@ -32,10 +32,10 @@ module _ {S T : Type 0} (r : Reader S T) where
     pub answered : (a : Result (Option T) NoMemory) → IfOk a (Taken bare (r.Takes s)) → (e : _) → e ≡ answer_of a → AnswersReading bare r.Stands e
     answered a h e same = subst (AnswersReading bare r.Stands) (sym same) (at a h)
       where
-      at : (a : Result (Option T) NoMemory) → IfOk a (Taken bare (r.Takes s)) → AnswersReading bare r.Stands (answer_of a)
-      at (Ok None) h = untaken h
-      at (Ok (Some t)) h = r.put s (bare t) (subst (Parses r.Is) is parsed) h
-      at (Err e) h = tt
+        at : (a : Result (Option T) NoMemory) → IfOk a (Taken bare (r.Takes s)) → AnswersReading bare r.Stands (answer_of a)
+        at (Ok None) h = untaken h
+        at (Ok (Some t)) h = r.put s (bare t) (subst (Parses r.Is) is parsed) h
+        at (Err e) h = tt
 
   -- and no other tree does
   pub one_stands : (t u : T) → r.Stands t → r.Stands u → t ≡ u
@@ -49,7 +49,7 @@ module _ {S T : Type 0} (r : Reader S T) where
 pub answered_belongs : {T : Type 0} (P : T → Type 0) (a : Result (Option T) NoMemory) → IfOk a (λ o. IfSome o P) → (e : _) → e ≡ answer_of a → IfOk e P
 answered_belongs {T} P a h e same = subst (λ z. IfOk z P) (sym same) (at a h)
   where
-  at : (a : Result (Option T) NoMemory) → IfOk a (λ o. IfSome o P) → IfOk (answer_of a) P
-  at (Ok None) h = tt
-  at (Ok (Some t)) h = h
-  at (Err e) h = tt
+    at : (a : Result (Option T) NoMemory) → IfOk a (λ o. IfSome o P) → IfOk (answer_of a) P
+    at (Ok None) h = tt
+    at (Ok (Some t)) h = h
+    at (Err e) h = tt

@@ -48,10 +48,10 @@ name_place ns i x at once =
     let here : get_or ns i [] ≡ x = get_or_from_slice_get ns i x [] at in
     sym (place_found ns x i within
     (λ k lt. false_from_ne_true (bytes_eq x (get_or ns k [])) (λ e.
-      let less : k < length ns = omega (arith, lt, within) in
-      let same : x ≡ get_or ns k [] = (bytes_eq-Decides x (get_or ns k [])).0 e in
-      let p : k ≡ i = once k (slice_get-get_or ns k [] less ∙ ap Some (sym same)) in
-      absurd (omega (arith, lt, p))))
+    let less : k < length ns = omega (arith, lt, within) in
+    let same : x ≡ get_or ns k [] = (bytes_eq-Decides x (get_or ns k [])).0 e in
+    let p : k ≡ i = once k (slice_get-get_or ns k [] less ∙ ap Some (sym same)) in
+    absurd (omega (arith, lt, p))))
     ((bytes_eq-Decides x (get_or ns i [])).1 (sym here)))
 
 contains_at : {X : Type 0} (xs : List X) (k : ℕ) (x : X) → slice_get xs k ≡ Some x → Contains xs x
@@ -178,20 +178,20 @@ module _ (scope : TextScope) (over : IsOver scope) where
   sort_told (sort.Named k) h =
       declared k (slice_get scope.table.sorts k) refl h
     where
-    declared : (k : ℕ) (o : Option NamedSort) → slice_get scope.table.sorts k ≡ o → k < length scope.table.sorts → CanReadSort scope.table (sort.Named k)
-    declared k None e lt = let p = slice_get-get_or scope.table.sorts k nameless lt in absurd (cc)
-    declared k (Some y) e lt =
-        let table = scope.table in
-        let name : name_of_sort table (sort.Named k) ≡ Some y.name = ap (option_map sort_name) e in
-        let named : IsName y.name = All-contains (λ (z : NamedSort). IsName z.name) table.sorts y ok.named_sorts (contains_at table.sorts k y e) in
-        let other : bytes_eq y.name (codes "nat") ≡ false = false_from_ne_true (bytes_eq y.name (codes "nat")) (λ q. name_other y.name named ((bytes_eq-Decides y.name (codes "nat")).0 q)) in
-        let at : slice_get (map sort_name table.sorts) k ≡ Some y.name = slice_get-map sort_name table.sorts k ∙ name in
-        let place : position (bytes_eq y.name) (map sort_name table.sorts) ≡ Some k =
-        name_place (map sort_name table.sorts) k y.name at (λ j there. same_number j k (ok.sorts.sorts (sort.Named j) (sort.Named k) y.name (sym (slice_get-map sort_name table.sorts j) ∙ there) name)) in
-        (y.name, named, name, ap (λ (b : Bool). if b then Some sort.Nat else option_map sort.Named (position (bytes_eq y.name) (map sort_name table.sorts))) other ∙ ap (option_map sort.Named) place)
-      where
-      same_number : (j k : ℕ) → sort.Named j ≡ sort.Named k → j ≡ k
-      same_number j k e = cc
+      declared : (k : ℕ) (o : Option NamedSort) → slice_get scope.table.sorts k ≡ o → k < length scope.table.sorts → CanReadSort scope.table (sort.Named k)
+      declared k None e lt = let p = slice_get-get_or scope.table.sorts k nameless lt in absurd (cc)
+      declared k (Some y) e lt =
+          let table = scope.table in
+          let name : name_of_sort table (sort.Named k) ≡ Some y.name = ap (option_map sort_name) e in
+          let named : IsName y.name = All-contains (λ (z : NamedSort). IsName z.name) table.sorts y ok.named_sorts (contains_at table.sorts k y e) in
+          let other : bytes_eq y.name (codes "nat") ≡ false = false_from_ne_true (bytes_eq y.name (codes "nat")) (λ q. name_other y.name named ((bytes_eq-Decides y.name (codes "nat")).0 q)) in
+          let at : slice_get (map sort_name table.sorts) k ≡ Some y.name = slice_get-map sort_name table.sorts k ∙ name in
+          let place : position (bytes_eq y.name) (map sort_name table.sorts) ≡ Some k =
+          name_place (map sort_name table.sorts) k y.name at (λ j there. same_number j k (ok.sorts.sorts (sort.Named j) (sort.Named k) y.name (sym (slice_get-map sort_name table.sorts j) ∙ there) name)) in
+          (y.name, named, name, ap (λ (b : Bool). if b then Some sort.Nat else option_map sort.Named (position (bytes_eq y.name) (map sort_name table.sorts))) other ∙ ap (option_map sort.Named) place)
+        where
+          same_number : (j k : ℕ) → sort.Named j ≡ sort.Named k → j ≡ k
+          same_number j k e = cc
 
 -- a variable is printed as its name, and its name finds it
 module _ (table : SymbolTable) where

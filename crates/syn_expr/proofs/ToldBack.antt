@@ -61,8 +61,8 @@ closed_sound limit scope f table k = record {
   named = λ v c. absurd (nothing_in (free_vars f) k.closed v c);
 }
   where
-  none : (n : Named) → Contains scope.names n → ⊥
-  none n c = nothing_in scope.names k.nameless n c
+    none : (n : Named) → Contains scope.names n → ⊥
+    none n c = nothing_in scope.names k.nameless n c
 
 pub closed_back : (limit : Limit) (scope : TextScope) (f : QFormTree) → IsTable scope.table → IsClosedQForm limit scope f → IsTextOf (IsQFormOf limit scope) (printed_qform scope f) (bare_qform f)
 closed_back limit scope f table k =

@@ -86,9 +86,10 @@ module _ (scope : TextScope) (over : IsOver scope) where
       forms_go all hs ((chain_formed scope.table f all all is refl).0 formed).1 (λ v c. h v (subst (λ (z : List Var). Contains z v) (sym (chain_vars f all all is refl)) c))
 
   two_terms : (s t : TermTree) → IsSorted scope.table s → IsSorted scope.table t → CanReadVars scope over (flat_map term_vars (s ∷ t ∷ [])) → CanReadEquality scope s t
-  two_terms s t hs ht h =
-      (term_told scope over s hs (λ v c. h v (Contains-flat_map_from term_vars (s ∷ t ∷ []) s v (Contains-head s (t ∷ [])) c)),
-      term_told scope over t ht (λ v c. h v (Contains-flat_map_from term_vars (s ∷ t ∷ []) t v (Contains-tail s (t ∷ []) t (Contains-head t [])) c)))
+  two_terms s t hs ht h = (
+    term_told scope over s hs (λ v c. h v (Contains-flat_map_from term_vars (s ∷ t ∷ []) s v (Contains-head s (t ∷ [])) c)),
+    term_told scope over t ht (λ v c. h v (Contains-flat_map_from term_vars (s ∷ t ∷ []) t v (Contains-tail s (t ∷ []) t (Contains-head t [])) c)),
+  )
 
   -- a formed formula whose variables can be read
   pub form_told : (f : FormTree) → FormTold f
@@ -111,8 +112,8 @@ module _ (scope : TextScope) (over : IsOver scope) where
       (k p.0 (λ v c. vars v (within (form_terms a) (form_terms a ++ form_terms b) (λ t d. Contains-append_left (form_terms a) (form_terms b) t d) v c)))
       (l p.1 (λ v c. vars v (within (form_terms b) (form_terms a ++ form_terms b) (λ t d. Contains-append_right (form_terms a) (form_terms b) t d) v c))))
     where
-    within : (xs ys : List TermTree) → ((t : TermTree) → Contains xs t → Contains ys t) → (v : Var) → Contains (flat_map term_vars xs) v → Contains (flat_map term_vars ys) v
-    within xs ys sub v c = let p = Contains-flat_map term_vars xs v c in Contains-flat_map_from term_vars ys p.0 v (sub p.0 p.1) p.2
+      within : (xs ys : List TermTree) → ((t : TermTree) → Contains xs t → Contains ys t) → (v : Var) → Contains (flat_map term_vars xs) v → Contains (flat_map term_vars ys) v
+      within xs ys sub v c = let p = Contains-flat_map term_vars xs v c in Contains-flat_map_from term_vars ys p.0 v (sub p.0 p.1) p.2
 
   abbrev OutTold : OutTree → Type 0
   OutTold o = IsFormedOut scope.table o → CanReadVars scope over (out_vars o) → CanReadOut scope o
@@ -128,7 +129,7 @@ module _ (scope : TextScope) (over : IsOver scope) where
       (λ t formed h.
       let sorted = (term_formed scope.table (out.Give t) t refl).0 formed in
       every-Give (CanReadOutNode scope) t (term_told scope over t sorted (λ v c.
-        parts_of (out.Give t) (t ∷ []) (t ∷ []) (fold-Give out_terms_step t) (λ u d. d) h v (Contains-flat_map_from term_vars (t ∷ []) t v (Contains-head t []) c))))
+      parts_of (out.Give t) (t ∷ []) (t ∷ []) (fold-Give out_terms_step t) (λ u d. d) h v (Contains-flat_map_from term_vars (t ∷ []) t v (Contains-head t []) c))))
       (λ f u w k l formed h.
       let p = (choice_formed scope.table (out_view.If f u w) f f u w u w u w refl refl refl refl refl refl).0 formed in
       let whole = form_terms f ++ (out_terms u ++ out_terms w) in
@@ -153,8 +154,8 @@ same_var_to u w e =
     let s : u.sort ≡ w.sort = same_sort_to u.sort w.sort p.1 in
     ap (λ (z : ℕ). var z u.sort) n ∙ ap (var w.number) s
   where
-  var : ℕ → Sort → Var
-  var n s = record { number = n; sort = s }
+    var : ℕ → Sort → Var
+    var n s = record { number = n; sort = s }
 
 kept : (u : Var) (vs : List Var) (v : Var) → Contains vs v → (u ≡ v) ⊎ Contains (without u vs) v
 kept u [] v c = inr c
@@ -164,6 +165,7 @@ kept u (w ∷ ws) v c = at (same_var u w) refl (Contains-cons_cases w ws v c) (k
     tail b (inl e) = inl e
     tail true (inr d) = inr d
     tail false (inr d) = inr (Contains-tail w (without u ws) v d)
+
     at : (b : Bool) → same_var u w ≡ b → (w ≡ v) ⊎ Contains ws v → (Contains ws v → (u ≡ v) ⊎ Contains (without u ws) v) → (u ≡ v) ⊎ Contains (if b then without u ws else w ∷ without u ws) v
     at true q (inl e) r = inl (same_var_to u w q ∙ e)
     at false q (inl e) r = inr (subst (λ (z : Var). Contains (w ∷ without u ws) z) e (Contains-head w (without u ws)))
@@ -360,8 +362,8 @@ qform_told = by_qform_cases QFormTold record {
       (bound_told b a h scope n f.1 o.0 o.1);
 }
   where
-  bound_told : (b : Binder) (a : QFormTree) → QFormTold a → (scope : TextScope) (n : ℕ) → IsFormedQ scope.table a → IsUnbound b.name a → BindsOnce a → Sound scope n (b ∷ binders_of a) (without b.var (free_vars a)) → All IsGood (record { at = scope; leaf = binder b } ∷ leaves a (in_scope_of scope b))
-  bound_told b a h scope n fo new bo s =
-      All-cons IsGood (record { at = scope; leaf = binder b }) (leaves a (in_scope_of scope b))
-      (binder_told scope n b (binders_of a) (free_vars a) s new)
-      (h (in_scope_of scope b) (n + 1) fo bo (sound_inside scope n b (binders_of a) (free_vars a) s new))
+    bound_told : (b : Binder) (a : QFormTree) → QFormTold a → (scope : TextScope) (n : ℕ) → IsFormedQ scope.table a → IsUnbound b.name a → BindsOnce a → Sound scope n (b ∷ binders_of a) (without b.var (free_vars a)) → All IsGood (record { at = scope; leaf = binder b } ∷ leaves a (in_scope_of scope b))
+    bound_told b a h scope n fo new bo s =
+        All-cons IsGood (record { at = scope; leaf = binder b }) (leaves a (in_scope_of scope b))
+        (binder_told scope n b (binders_of a) (free_vars a) s new)
+        (h (in_scope_of scope b) (n + 1) fo bo (sound_inside scope n b (binders_of a) (free_vars a) s new))

@@ -169,12 +169,7 @@ pub fn read_qform(
 }
 
 /// The output that the text stands for in the scope, with the same limit. `Refused`: there is none.
-pub fn read_out(
-    alloc: Global,
-    bank: &mut Bank,
-    scope: &Scope,
-    text: &str,
-) -> Result<Out, ExprError>
+pub fn read_out(alloc: Global, bank: &mut Bank, scope: &Scope, text: &str) -> Result<Out, ExprError>
     ensures answer { AnswersReading bare_out (IsTextOf (IsOutOf expression_limit (spoken scope.now)) text.now) result }
     ensures one { OneAtMost (IsTextOf (IsOutOf expression_limit (spoken scope.now)) text.now) }
     ensures past { ArePast (IsOutSyntaxOf text.now) limits.out_cost limits.out_levels expression_limit → bank.new ≡ bank.old }
@@ -199,12 +194,5 @@ pub fn read_body(
     ensures extends { Extends bank.old bank.new }
     ensures belongs { IfOk result (OutBelongs bank.new) }
 {
-    out_of(
-        alloc,
-        bank,
-        scope,
-        text,
-        MOST_BODY_NODES,
-        MOST_BODY_LEVELS,
-    )
+    out_of(alloc, bank, scope, text, MOST_BODY_NODES, MOST_BODY_LEVELS)
 }

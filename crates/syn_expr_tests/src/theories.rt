@@ -255,12 +255,7 @@ fn begun(alloc: Global) -> Result<Theory, Fail> {
 }
 
 /// Declares the lines of a table in order. Each answer is the one behind the arrow.
-fn declares<R: Abort>(
-    rt: &R,
-    alloc: Global,
-    theory: &mut Theory,
-    table: &str,
-) -> Result<(), Fail> {
+fn declares<R: Abort>(rt: &R, alloc: Global, theory: &mut Theory, table: &str) -> Result<(), Fail> {
     for line in table.lines() {
         let (decl, want) = cut(line, " => ");
         let got = is_taken(alloc, theory, decl)?;
