@@ -136,7 +136,7 @@ module _ (scope : TextScope) where
       let right = sort_bare scope.table t in
       let one : are_of_one_sort (sort_of scope.table (bare s)) (sort_of scope.table (bare t)) ≡ true =
       ap (λ (o : Option Sort). are_of_one_sort o (sort_of scope.table (bare t))) left
-      ∙ (ap (are_of_one_sort (sort_of scope.table s)) right ∙ one_sort (sort_of scope.table s) (sort_of scope.table t) (sort_there scope s hs c.0) e) in
+      ∙ (ap (are_of_one_sort (sort_of scope.table s)) right ∙ one_sort (sort_of scope.table s) (sort_of scope.table t) (sort_there scope.table s hs) e) in
       ap (option_and_then (λ x. option_and_then (sorted_equality scope.table x) (elaborate_term scope (term_written scope t)))) (term_back scope s hs c.0)
       ∙ (ap (option_and_then (sorted_equality scope.table (bare s))) (term_back scope t ht c.1)
       ∙ ap (λ (z : Bool). if z then Some (form.Equal (bare s) (bare t)) else None) one)

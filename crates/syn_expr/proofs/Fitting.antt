@@ -17,7 +17,7 @@ use Rattle.syn_form.specs.declared.syntax.TermSyntax.TheVariants as term
 use Rattle.syn_form.specs.Grammar.{fixed, sign_word, name_word, head_lexeme, with_commas, in_brackets, words_of_term, words_of_term_step, words_of_args}
 use Rattle.syn_parse.specs.Lexemes.{IsCanonical}
 use Rattle.syn_expr.specs.Limits.{term_levels, term_levels_step}
-use Rattle.syn_expr.specs.Proper.{all_true, is_proper_head, is_proper_term, is_symbol_name, proper_applied, proper_term_step}
+use Rattle.syn_expr.specs.inner.Proper.{all_true, is_proper_head, is_proper_term, is_symbol_name, proper_applied, proper_term_step}
 use Rattle.syn_parse.specs.Written.{Written, has_args, has_args_step, some_all, term_height, term_height_step}
 use Rattle.syn_form.proofs.Sorting.{both_true}
 use Rattle.syn_parse.proofs.TermShapes.{some_height}

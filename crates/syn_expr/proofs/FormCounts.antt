@@ -21,7 +21,7 @@ use Rattle.syn_form.specs.Quantified.{qform_nodes, qform_nodes_step, qform_depth
 use Rattle.syn_form.specs.Scopes.{TextScope, with_name}
 use Rattle.syn_form.specs.Sorts.{are_of_one_sort, makes_atom}
 use Rattle.syn_form.specs.Trees.{QFormTree}
-use Rattle.syn_expr.specs.Elaborating.{binder_var}
+use Rattle.syn_expr.specs.inner.Elaborating.{binder_var}
 use Rattle.syn_expr.specs.Limits.{form_cost, form_cost_step, form_levels, form_levels_step, term_cost, term_levels}
 use Rattle.syn_expr.proofs.FormMaking.{both, bound_is}
 use Rattle.syn_expr.proofs.FormSyntaxes.{by_form_syntax, fold-True, fold-False, fold-Atom, fold-Equal, fold-Not, fold-And, fold-Or, fold-Implies, fold-BothWays, fold-Quantified}

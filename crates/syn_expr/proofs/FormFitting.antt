@@ -20,7 +20,7 @@ use Rattle.syn_form.specs.Grammar.{UnaryText, ConjText, DisjText, ImpText, FormT
 use Rattle.syn_parse.specs.Heights.{height_of, height_step, out_height, out_height_step}
 use Rattle.syn_parse.specs.Lexemes.{IsCanonical}
 use Rattle.syn_expr.specs.Limits.{term_levels_step, form_levels, form_levels_step, out_levels, out_levels_step}
-use Rattle.syn_expr.specs.Proper.{all_true, are_proper_binders, is_proper_binder, is_proper_form, is_proper_out, is_proper_term, proper_applied, proper_atom, proper_form_step, proper_out_step, proper_term_step}
+use Rattle.syn_expr.specs.inner.Proper.{all_true, are_proper_binders, is_proper_binder, is_proper_form, is_proper_out, is_proper_term, proper_applied, proper_atom, proper_form_step, proper_out_step, proper_term_step}
 use Rattle.syn_parse.specs.Written.{WrittenUnary, WrittenConj, WrittenDisj, WrittenImp, WrittenForm, WrittenOut}
 use Rattle.syn_expr.proofs.Fitting.{canonical_name, front_all, last_all, commas_canonical, one_canonical, between_canonical, brackets_canonical, greatest_below, some_levels, term_fit}
 use Rattle.syn_form.proofs.Sorting.{both_true}

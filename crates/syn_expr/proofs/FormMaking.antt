@@ -22,7 +22,7 @@ use Rattle.syn_form.specs.Quantified.{bare_qform, bare_qform_step}
 use Rattle.syn_form.specs.Scopes.{TextScope, with_name}
 use Rattle.syn_form.specs.Sorts.{makes_atom}
 use Rattle.syn_form.specs.Trees.{QFormTree}
-use Rattle.syn_expr.specs.Elaborating.{bare_reading, binder_var}
+use Rattle.syn_expr.specs.inner.Elaborating.{bare_reading, binder_var}
 use Rattle.syn_expr.proofs.Options.{one_missing}
 use Rattle.syn_form.proofs.QForms.{qfold-All, qfold-Atom, qfold-Exists}
 use Rattle.syn_form.proofs.Sorting.{atom_decided, makes_atom_bare}

@@ -35,3 +35,7 @@ pub mod BackForms
 pub mod AsQForm
 pub mod BareCounts
 pub mod ReadsBack
+pub mod Spending
+pub mod Told
+pub mod ToldForms
+pub mod ToldBack

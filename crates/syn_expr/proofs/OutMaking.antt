@@ -14,7 +14,7 @@ use Rattle.syn_form.specs.Sorts.{are_of_one_sort}
 use Rattle.syn_form.specs.Trees.{FormTree, OutTree, QFormTree, bare_form, bare_out}
 use Rattle.syn_form.proofs.Equations.{fold-Give, fold-If, bare_out-Give, bare_out-If}
 use Rattle.syn_form.proofs.Induction.{by_outs}
-use Rattle.syn_expr.specs.Elaborating.{bare_reading}
+use Rattle.syn_expr.specs.inner.Elaborating.{bare_reading}
 use Rattle.syn_expr.proofs.FormMaking.{both}
 use Rattle.syn_form.proofs.Sorting.{sort_bare}
 use Rattle.syn_expr.proofs.Unquantifying.{unquantified_bare}

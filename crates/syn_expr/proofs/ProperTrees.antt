@@ -25,8 +25,8 @@ use Rattle.syn_form.specs.Lists.{all_there}
 use Rattle.syn_form.specs.Quantified.{unquantified}
 use Rattle.syn_form.specs.Scopes.{Named, TextScope, with_name}
 use Rattle.syn_form.specs.Trees.{OutTree, QFormTree}
-use Rattle.syn_expr.specs.Elaborating.{binder_var}
-use Rattle.syn_expr.specs.Proper.{all_true, are_proper_binders, is_proper_binder, is_proper_form, is_proper_head, is_proper_out, is_proper_term, is_symbol_name, proper_applied, proper_atom, proper_form_step, proper_out_step, proper_term_step}
+use Rattle.syn_expr.specs.inner.Elaborating.{binder_var}
+use Rattle.syn_expr.specs.inner.Proper.{all_true, are_proper_binders, is_proper_binder, is_proper_form, is_proper_head, is_proper_out, is_proper_term, is_symbol_name, proper_applied, proper_atom, proper_form_step, proper_out_step, proper_term_step}
 use Rattle.syn_expr.proofs.FormCounts.{read_before, steady_before, two_before}
 use Rattle.syn_expr.proofs.FormMaking.{both, bound_is}
 use Rattle.syn_expr.proofs.FormSyntaxes.{by_form_syntax, by_out_syntax, fold-True, fold-False, fold-Atom, fold-Equal, fold-Not, fold-And, fold-Or, fold-Implies, fold-BothWays, fold-Quantified, fold-Give, fold-If}

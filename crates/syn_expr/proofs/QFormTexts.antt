@@ -9,7 +9,7 @@ use Rattle.syn_form.specs.declared.trees.QForm.TheViews as view
 use Rattle.syn_form.specs.Trees.{QFormTree}
 use Rattle.syn_form.specs.Scopes.{TextScope}
 use Rattle.syn_form.specs.Printing.{PrintedForm, inner, joined, in_scope_of, print_qform_step, printing_of_qform, printed_qform}
-use Rattle.syn_expr.specs.Places.{binder_text}
+use Rattle.syn_expr.specs.inner.Places.{binder_text}
 
 abbrev Printer : Type 0
 Printer = TextScope → PrintedForm

@@ -13,7 +13,7 @@ use Rattle.syn_form.specs.Texts.{IsFormOf, IsOutOf, IsQFormOf, IsTermOf, IsTextO
 use Rattle.syn_form.specs.Trees.{FormTree, QFormTree, OutTree}
 use Rattle.syn_parse.specs.Parsing.{IsFormSyntaxOf, IsOutSyntaxOf, IsTermSyntaxOf}
 use Rattle.syn_parse.proofs.Parses.{one_form_syntax, one_out_syntax, one_term_syntax}
-use Rattle.syn_expr.specs.Accepting.{TakesForm, TakesOut, TakesQForm, TakesTerm}
+use Rattle.syn_expr.specs.inner.Accepting.{TakesForm, TakesOut, TakesQForm, TakesTerm}
 use Rattle.syn_expr.proofs.Fitting.{term_fit}
 use Rattle.syn_expr.proofs.FormCounts.{form_depth_is}
 use Rattle.syn_expr.proofs.FormFitting.{FormFit, OutFit, form_fit, out_fit}

@@ -82,7 +82,7 @@ module _ (scope : TextScope) where
       let arms = parts-If (PlainOutNode scope.table) f u v formed in
       let can_test : CanReadForm scope f = node-If (CanReadOutNode scope) f u v can in
       let can_arms = parts-If (CanReadOutNode scope) f u v can in
-      let one : are_of_one_sort (given_sort scope.table u) (given_sort scope.table v) ≡ true = one_sort (given_sort scope.table u) (given_sort scope.table v) (given_there scope u arms.0 can_arms.0) test.1 in
+      let one : are_of_one_sort (given_sort scope.table u) (given_sort scope.table v) ≡ true = one_sort (given_sort scope.table u) (given_sort scope.table v) (given_there scope.table u arms.0) test.1 in
       ap (λ (z : Option FormTree). choice_tree scope.table z (elaborate_out scope (syntax_of_out (out_written scope u))) (elaborate_out scope (syntax_of_out (out_written scope v)))) (form_back scope f test.0 can_test)
       ∙ (ap (λ (z : Option OutTree). choice_tree scope.table (Some (bare_form f)) z (elaborate_out scope (syntax_of_out (out_written scope v)))) (first arms.0 can_arms.0)
       ∙ (ap (choice_tree scope.table (Some (bare_form f)) (Some (bare_out u))) (second arms.1 can_arms.1)

@@ -13,7 +13,7 @@ use Rattle.syn_term.specs.Symbols.{symbol_at}
 use Rattle.syn_term.proofs.Trees.{fold-App, fold-Var}
 use Rattle.syn_form.specs.Scopes.{TextScope}
 use Rattle.syn_form.specs.Printing.{atom_text, Printed, print_step, printing_of, printed_term, symbol_printed, kind_printed, successor_printed, number_printed, applied_printed, applied_text, name_of, texts_of, var_text}
-use Rattle.syn_expr.specs.Places.{bracketed, arguments_text}
+use Rattle.syn_expr.specs.inner.Places.{bracketed, arguments_text}
 use Rattle.syn_expr.proofs.Pieces.{two_put, whole_put}
 
 -- the name, and then the arguments in brackets

@@ -1,4 +1,4 @@
--- Formulas and outputs whose terms belong to a bank.
+-- For public contracts: formulas and outputs whose terms belong to a bank.
 use Rattle.std.specs.Prelude.{◌≡◌, ℕ, List, [], ◌∷◌, ◌++◌, All, map}
 use Rattle.std.proofs.Common.{sym, subst}
 use Rattle.std.proofs.lemmas.List.Elements.{All-nil, All-cons, All-append, All-weaker, All-head, All-tail}

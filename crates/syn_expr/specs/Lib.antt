@@ -1,9 +1,7 @@
 pub mod Scopes
-pub mod Places
-pub mod Elaborating
 pub mod Limits
-pub mod Proper
 pub mod Belonging
-pub mod Accepting
-pub mod Reading
+pub mod TextAnswers
 pub mod Readable
+pub mod Told
+pub mod inner

@@ -1,5 +1,5 @@
--- How many nodes what a syntax tree stands for has, and how deep it is, counted on the syntax tree.
-use Rattle.std.specs.Prelude.{ℕ, ◌+◌, ◌*◌, max, sum, length, map}
+-- For public contracts: how many nodes what a syntax tree stands for has, and how deep it is, counted on the syntax tree.
+use Rattle.std.specs.Prelude.{ℕ, ◌+◌, ◌*◌, ◌<◌, ◌⊎◌, max, sum, length, map}
 use Rattle.syn_term.specs.Terms.{greatest}
 use Rattle.syn_form.specs.declared.syntax.TermSyntax.{TermSyntax, fold-TermSyntax}
 use Rattle.syn_form.specs.declared.syntax.TermSyntax.TheOpen.{TermSyntax-F}
@@ -7,6 +7,7 @@ use Rattle.syn_form.specs.declared.syntax.FormSyntax.{FormSyntax, fold-FormSynta
 use Rattle.syn_form.specs.declared.syntax.FormSyntax.TheOpen.{FormSyntax-F}
 use Rattle.syn_form.specs.declared.syntax.OutSyntax.{OutSyntax, fold-OutSyntax}
 use Rattle.syn_form.specs.declared.syntax.OutSyntax.TheOpen.{OutSyntax-F}
+use Rattle.syn_form.specs.Texts.{Limit}
 
 abbrev pub term_cost_step : TermSyntax-F ℕ → ℕ
 term_cost_step (TermSyntax-F.Number k) = k + 1
@@ -71,3 +72,7 @@ out_levels_step (OutSyntax-F.If f u v) = 1 + max (form_levels f) (max u v)
 -- the depth of an output
 abbrev pub out_levels : OutSyntax → ℕ
 out_levels = fold-OutSyntax ℕ out_levels_step
+
+-- a tree with so many nodes, or so deep, is past the limit
+abbrev pub IsPast : Limit → ℕ → ℕ → Type 0
+IsPast limit nodes depth = (limit.nodes < nodes) ⊎ (limit.depth < depth)

@@ -1,4 +1,4 @@
--- Which trees a scope can read: each symbol, variable and sort of the tree has a name by which the scope finds just it. Such a
+-- For public contracts: which trees a scope can read: each symbol, variable and sort of the tree has a name by which the scope finds just it. Such a
 -- tree, printed, is read back.
 use Rattle.std.specs.Prelude.{◌≡◌, ℕ, ◌≤◌, ◌<◌, ◌^◌, Bool, true, false, List, [], ◌∷◌, ◌++◌, None, Some, All, length}
 use Rattle.std.specs.List.{flat_map}
@@ -12,7 +12,7 @@ use Rattle.syn_term.specs.declared.sorts.Kind.TheVariants as kind
 use Rattle.syn_term.specs.declared.term.Node.{Node, every-Node}
 use Rattle.syn_term.specs.declared.term.Node.TheOpen.{Node-F}
 use Rattle.syn_term.specs.Names.{IsName, IsSkolemName}
-use Rattle.syn_term.specs.Symbols.{SymbolTable, FitsResult, symbol_at, zero_symbol, succ_symbol}
+use Rattle.syn_term.specs.Symbols.{SymbolTable, symbol_at, zero_symbol, succ_symbol}
 use Rattle.syn_term.specs.DeclaredSorts.{name_of_sort, sort_named}
 use Rattle.syn_term.specs.Terms.{TermTree, nodes, depth_of}
 use Rattle.syn_form.specs.declared.syntax.HeadName.{HeadName}
@@ -50,12 +50,11 @@ abbrev pub IsUnshadowed : TextScope → HeadName → List TermTree → Type 0
 IsUnshadowed scope h [] = head_var scope h ≡ None
 IsUnshadowed scope h (t ∷ ts) = Unit {0}
 
--- the symbol has a name of its kind, and a result where its kind has one, and the scope finds it by its name
+-- the symbol has a name of its kind, and the scope finds it by its name
 pub record CanReadSymbol (scope : TextScope) (f : SymId) (args : List TermTree) : Type 0 where
   pub sym : Sym
   pub is : symbol_at scope.table f ≡ Some sym
   pub named : IsNamed sym.kind sym
-  pub valued : FitsResult sym.kind sym.result
   pub found : head_symbol scope (symbol_head sym.kind sym.name) ≡ Some f
   pub unshadowed : IsUnshadowed scope (symbol_head sym.kind sym.name) args
 

@@ -1,13 +1,17 @@
-// The tree that a syntax tree is taken for. What it will have is counted before anything is made.
-ghost use Rattle.std.specs.Prelude.{◌≤◌, ◌↔◌, IfOk, IfSome, IsTrue};
+// The tree that a syntax tree is taken for. What it will have is counted before anything is made, and
+// past a limit nothing is.
+ghost use Rattle.std.specs.Prelude.{◌≡◌, ◌≤◌, ◌+◌, ◌↔◌, IfOk, IfSome, IsTrue, MatchOption};
 ghost use Rattle.syn_term.specs.Bank.{Belongs, Extends};
 ghost use Rattle.syn_term.specs.Terms.{bare};
-ghost use Rattle.syn_form.specs.Quantified.{bare_qform};
-ghost use Rattle.syn_form.specs.Trees.{bare_form, bare_out};
-ghost use Rattle.syn_expr.specs.Accepting.{Taken, TakesForm, TakesOut, TakesQForm, TakesTerm, limit_of};
+ghost use Rattle.syn_form.specs.Plain.{HasOneSortEach};
+ghost use Rattle.syn_form.specs.Quantified.{bare_qform, qform_vars};
+ghost use Rattle.syn_form.specs.Trees.{bare_form, bare_out, form_vars, out_vars, term_vars};
+ghost use Rattle.syn_expr.specs.inner.Accepting.{IfSorted, Taken, TakesForm, TakesOut, TakesQForm, TakesTerm, limit_of};
 ghost use Rattle.syn_expr.specs.Belonging.{FormBelongs, OutBelongs, QFormBelongs};
 ghost use Rattle.syn_expr.specs.Limits as limits;
+ghost use Rattle.syn_expr.specs.Limits.{IsPast};
 ghost use Rattle.syn_expr.specs.Scopes.{spoken};
+ghost use Rattle.syn_expr.specs.inner.Spending.{Spends};
 
 use crate::elaborate_form::elaborate_form;
 use crate::elaborate_out::{elaborate_out, elaborate_plain};
@@ -43,6 +47,45 @@ fn out_fits(syntax: &OutSyntax, nodes: u32, depth: u32) -> bool
     out_cost(syntax, nodes) <= u64::from(nodes) && out_levels(syntax, depth) <= u64::from(depth)
 }
 
+/// The term, where no number has two sorts in it.
+fn sorted_term(alloc: Global, t: Term) -> Result<Option<Term>, NoMemory>
+    ensures { IfOk result (IfSorted term_vars t) }
+{
+    match term_has_one_sort_each(alloc, &t) {
+        Ok(true) => Ok(Some(t)),
+        Ok(false) => {
+            drop(t);
+            Ok(None)
+        }
+        Err(error) => {
+            drop(t);
+            Err(error)
+        }
+    }
+}
+
+/// The same where what was counted is within the limit.
+#[tactic(auto, using(crate::proofs::Growth::growth))]
+fn fitting_term(
+    alloc: Global,
+    bank: &mut Bank,
+    scope: &Scope,
+    syntax: &TermSyntax,
+    nodes: u32,
+    depth: u32,
+) -> Result<Option<Term>, NoMemory>
+    requires { (limits.term_cost syntax.now ≤ nodes) × (limits.term_levels syntax.now ≤ depth) }
+    ensures tree { IfOk result (Taken bare (TakesTerm (limit_of nodes depth) (spoken scope.now) syntax.now)) }
+    ensures made { Spends bank.old bank.new (limits.term_cost syntax.now) }
+    ensures extends { Extends bank.old bank.new }
+    ensures belongs { IfOk result (λ o. IfSome o (Belongs bank.new)) }
+{
+    match elaborate_term(alloc, bank, &outside(scope), syntax)? {
+        None => Ok(None),
+        Some(t) => sorted_term(alloc, t),
+    }
+}
+
 /// The term that the syntax tree is taken for; None where it stands for none, one that is too large
 /// or too deep, or one in which a number has two sorts. The one error is want of memory.
 #[tactic(auto, using(crate::proofs::Growth::growth))]
@@ -55,19 +98,55 @@ pub(crate) fn taken_term(
     depth: u32,
 ) -> Result<Option<Term>, NoMemory>
     ensures tree { IfOk result (Taken bare (TakesTerm (limit_of nodes depth) (spoken scope.now) syntax.now)) }
+    ensures past { IsPast (limit_of nodes depth) (limits.term_cost syntax.now) (limits.term_levels syntax.now) → bank.new ≡ bank.old }
+    ensures made { bank.new.made ≤ bank.old.made + nodes }
     ensures extends { Extends bank.old bank.new }
     ensures belongs { IfOk result (λ o. IfSome o (Belongs bank.new)) }
 {
-    if !term_fits(syntax, nodes, depth) {
-        return Ok(None);
+    if term_fits(syntax, nodes, depth) {
+        fitting_term(alloc, bank, scope, syntax, nodes, depth)
+    } else {
+        Ok(None)
     }
-    let Some(t) = elaborate_term(alloc, bank, &outside(scope), syntax)? else {
-        return Ok(None);
-    };
-    if !term_has_one_sort_each(alloc, &t)? {
-        return Ok(None);
+}
+
+/// The formula, where no number has two sorts in it.
+fn sorted_form(alloc: Global, f: Form) -> Result<Option<Form>, NoMemory>
+    ensures { IfOk result (IfSorted form_vars f) }
+{
+    match form_has_one_sort_each(alloc, &f) {
+        Ok(true) => Ok(Some(f)),
+        Ok(false) => {
+            drop(f);
+            Ok(None)
+        }
+        Err(error) => {
+            drop(f);
+            Err(error)
+        }
     }
-    Ok(Some(t))
+}
+
+/// The same where what was counted is within the limit.
+#[tactic(auto, using(crate::proofs::Growth::growth))]
+fn fitting_form(
+    alloc: Global,
+    bank: &mut Bank,
+    scope: &Scope,
+    syntax: &FormSyntax,
+    nodes: u32,
+    depth: u32,
+) -> Result<Option<Form>, NoMemory>
+    requires { (limits.form_cost syntax.now ≤ nodes) × (limits.form_levels syntax.now ≤ depth) }
+    ensures tree { IfOk result (Taken bare_form (TakesForm (limit_of nodes depth) (spoken scope.now) syntax.now)) }
+    ensures made { Spends bank.old bank.new (limits.form_cost syntax.now) }
+    ensures extends { Extends bank.old bank.new }
+    ensures belongs { IfOk result (λ o. IfSome o (FormBelongs bank.new)) }
+{
+    match elaborate_plain(alloc, bank, &outside(scope), syntax)? {
+        None => Ok(None),
+        Some(f) => sorted_form(alloc, f),
+    }
 }
 
 /// The formula without quantifiers that the syntax tree is taken for, with the same refusals, and
@@ -82,19 +161,55 @@ pub(crate) fn taken_form(
     depth: u32,
 ) -> Result<Option<Form>, NoMemory>
     ensures tree { IfOk result (Taken bare_form (TakesForm (limit_of nodes depth) (spoken scope.now) syntax.now)) }
+    ensures past { IsPast (limit_of nodes depth) (limits.form_cost syntax.now) (limits.form_levels syntax.now) → bank.new ≡ bank.old }
+    ensures made { bank.new.made ≤ bank.old.made + nodes }
     ensures extends { Extends bank.old bank.new }
     ensures belongs { IfOk result (λ o. IfSome o (FormBelongs bank.new)) }
 {
-    if !form_fits(syntax, nodes, depth) {
-        return Ok(None);
+    if form_fits(syntax, nodes, depth) {
+        fitting_form(alloc, bank, scope, syntax, nodes, depth)
+    } else {
+        Ok(None)
     }
-    let Some(f) = elaborate_plain(alloc, bank, &outside(scope), syntax)? else {
-        return Ok(None);
-    };
-    if !form_has_one_sort_each(alloc, &f)? {
-        return Ok(None);
+}
+
+/// The formula, where no number has two sorts in it.
+fn sorted_qform(alloc: Global, f: QForm) -> Result<Option<QForm>, NoMemory>
+    ensures { IfOk result (IfSorted qform_vars f) }
+{
+    match qform_has_one_sort_each(alloc, &f) {
+        Ok(true) => Ok(Some(f)),
+        Ok(false) => {
+            drop(f);
+            Ok(None)
+        }
+        Err(error) => {
+            drop(f);
+            Err(error)
+        }
     }
-    Ok(Some(f))
+}
+
+/// The same where what was counted is within the limit.
+#[tactic(auto, using(crate::proofs::Growth::growth))]
+fn fitting_qform(
+    alloc: Global,
+    bank: &mut Bank,
+    scope: &Scope,
+    syntax: &FormSyntax,
+    nodes: u32,
+    depth: u32,
+) -> Result<Option<QForm>, NoMemory>
+    requires { (limits.form_cost syntax.now ≤ nodes) × (limits.form_levels syntax.now ≤ depth) }
+    ensures tree { IfOk result (Taken bare_qform (TakesQForm (limit_of nodes depth) (spoken scope.now) syntax.now)) }
+    ensures made { Spends bank.old bank.new (limits.form_cost syntax.now) }
+    ensures extends { Extends bank.old bank.new }
+    ensures belongs { IfOk result (λ o. IfSome o (QFormBelongs bank.new)) }
+{
+    match elaborate_form(alloc, bank, &outside(scope), 1, syntax)? {
+        None => Ok(None),
+        Some((f, _)) => sorted_qform(alloc, f),
+    }
 }
 
 /// The formula that the syntax tree is taken for, with the same refusals. The one error is want of
@@ -109,19 +224,55 @@ pub(crate) fn taken_qform(
     depth: u32,
 ) -> Result<Option<QForm>, NoMemory>
     ensures tree { IfOk result (Taken bare_qform (TakesQForm (limit_of nodes depth) (spoken scope.now) syntax.now)) }
+    ensures past { IsPast (limit_of nodes depth) (limits.form_cost syntax.now) (limits.form_levels syntax.now) → bank.new ≡ bank.old }
+    ensures made { bank.new.made ≤ bank.old.made + nodes }
     ensures extends { Extends bank.old bank.new }
     ensures belongs { IfOk result (λ o. IfSome o (QFormBelongs bank.new)) }
 {
-    if !form_fits(syntax, nodes, depth) {
-        return Ok(None);
+    if form_fits(syntax, nodes, depth) {
+        fitting_qform(alloc, bank, scope, syntax, nodes, depth)
+    } else {
+        Ok(None)
     }
-    let Some((f, _)) = elaborate_form(alloc, bank, &outside(scope), 1, syntax)? else {
-        return Ok(None);
-    };
-    if !qform_has_one_sort_each(alloc, &f)? {
-        return Ok(None);
+}
+
+/// The output, where no number has two sorts in it.
+fn sorted_out(alloc: Global, o: Out) -> Result<Option<Out>, NoMemory>
+    ensures { IfOk result (IfSorted out_vars o) }
+{
+    match out_has_one_sort_each(alloc, &o) {
+        Ok(true) => Ok(Some(o)),
+        Ok(false) => {
+            drop(o);
+            Ok(None)
+        }
+        Err(error) => {
+            drop(o);
+            Err(error)
+        }
     }
-    Ok(Some(f))
+}
+
+/// The same where what was counted is within the limit.
+#[tactic(auto, using(crate::proofs::Growth::growth))]
+fn fitting_out(
+    alloc: Global,
+    bank: &mut Bank,
+    scope: &Scope,
+    syntax: &OutSyntax,
+    nodes: u32,
+    depth: u32,
+) -> Result<Option<Out>, NoMemory>
+    requires { (limits.out_cost syntax.now ≤ nodes) × (limits.out_levels syntax.now ≤ depth) }
+    ensures tree { IfOk result (Taken bare_out (TakesOut (limit_of nodes depth) (spoken scope.now) syntax.now)) }
+    ensures made { Spends bank.old bank.new (limits.out_cost syntax.now) }
+    ensures extends { Extends bank.old bank.new }
+    ensures belongs { IfOk result (λ o. IfSome o (OutBelongs bank.new)) }
+{
+    match elaborate_out(alloc, bank, &outside(scope), syntax)? {
+        None => Ok(None),
+        Some(o) => sorted_out(alloc, o),
+    }
 }
 
 /// The output that the syntax tree is taken for, with the same refusals, and where its arms give
@@ -136,17 +287,14 @@ pub(crate) fn taken_out(
     depth: u32,
 ) -> Result<Option<Out>, NoMemory>
     ensures tree { IfOk result (Taken bare_out (TakesOut (limit_of nodes depth) (spoken scope.now) syntax.now)) }
+    ensures past { IsPast (limit_of nodes depth) (limits.out_cost syntax.now) (limits.out_levels syntax.now) → bank.new ≡ bank.old }
+    ensures made { bank.new.made ≤ bank.old.made + nodes }
     ensures extends { Extends bank.old bank.new }
     ensures belongs { IfOk result (λ o. IfSome o (OutBelongs bank.new)) }
 {
-    if !out_fits(syntax, nodes, depth) {
-        return Ok(None);
+    if out_fits(syntax, nodes, depth) {
+        fitting_out(alloc, bank, scope, syntax, nodes, depth)
+    } else {
+        Ok(None)
     }
-    let Some(o) = elaborate_out(alloc, bank, &outside(scope), syntax)? else {
-        return Ok(None);
-    };
-    if !out_has_one_sort_each(alloc, &o)? {
-        return Ok(None);
-    }
-    Ok(Some(o))
 }

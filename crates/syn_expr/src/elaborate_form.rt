@@ -1,31 +1,32 @@
 // The formula that a syntax tree stands for, made by a bank. A binder's name is in scope of what is
 // read inside: it stands on the stack of the calls.
-ghost use Rattle.std.specs.Prelude.{◌≡◌, All, map, IfOk, IfSome};
+ghost use Rattle.std.specs.Prelude.{◌≡◌, ◌+◌, ◌*◌, All, map, sum, IfOk, IfSome};
 ghost use Rattle.std.specs.Option.{option_map};
 ghost use Rattle.syn_term.specs.Bank.{Extends};
 ghost use Rattle.syn_form.specs.Elaboration as elaboration;
 ghost use Rattle.syn_form.specs.Elaboration.{and_then, in_turn, nested, two_ways};
 ghost use Rattle.syn_form.specs.declared.trees.QForm.TheViews as view;
 ghost use Rattle.syn_expr.specs.Belonging.{QFormBelongs};
-ghost use Rattle.syn_expr.specs.Elaborating.{bare_reading, bare_readings};
-ghost use Rattle.syn_expr.specs.Places.{spoken_at};
+ghost use Rattle.syn_expr.specs.inner.Elaborating.{bare_reading, bare_readings};
+ghost use Rattle.syn_expr.specs.Limits as limits;
+ghost use Rattle.syn_expr.specs.inner.Places.{spoken_at};
+ghost use Rattle.syn_expr.specs.inner.Spending.{Spends};
 
 use crate::form_parts::{
-    both, conjunction, disjunction, elaborate_atom, elaborate_equality, implies, negated, quantify,
-    steady,
+    both, conjunction, disjunction, elaborate_atom, elaborate_equality, negated, quantify, steady,
 };
 use crate::lookups::binder_var;
 use crate::names::{Inside, within};
 use sqlite_items::Items;
 use std::alloc::Global;
 use syn_form::{Binder, BinderSyntax, FormSyntax, QForm, Quantifier};
-use syn_term::{Bank, NoMemory, Text};
+use syn_term::{Bank, NoMemory, Shared, Text};
 
 /// The formula that the syntax tree stands for, and the number of the next binder; None where a name
 /// isn't there or may not be bound, or sorts don't fit. The binders are numbered from `next` on. The
 /// one error is want of memory, or of numbers.
 #[cycle(forms)]
-#[tactic(auto, using(crate::proofs::Owning::owning))]
+#[tactic(auto, using(crate::proofs::Owning::owning, crate::proofs::Spending::spending))]
 pub(crate) fn elaborate_form(
     alloc: Global,
     bank: &mut Bank,
@@ -34,6 +35,7 @@ pub(crate) fn elaborate_form(
     syntax: &FormSyntax,
 ) -> Result<Option<(QForm, u32)>, NoMemory>
     ensures tree { IfOk result (λ o. option_map bare_reading o ≡ elaboration.elaborate_form syntax.now (spoken_at place.now) next) }
+    ensures made { Spends bank.old bank.new (limits.form_cost syntax.now) }
     ensures extends { Extends bank.old bank.new }
     ensures belongs { IfOk result (λ o. IfSome o (λ r. QFormBelongs bank.new r.0)) }
 {
@@ -81,7 +83,7 @@ pub(crate) fn elaborate_form(
 
 /// The formulas that the syntax trees stand for, one after the other.
 #[cycle(forms)]
-#[tactic(auto, using(crate::proofs::Owning::owning))]
+#[tactic(auto, using(crate::proofs::Owning::owning, crate::proofs::Spending::spending))]
 fn elaborate_forms(
     alloc: Global,
     bank: &mut Bank,
@@ -90,6 +92,7 @@ fn elaborate_forms(
     all: &[FormSyntax],
 ) -> Result<Option<(Items<QForm>, u32)>, NoMemory>
     ensures tree { IfOk result (λ o. option_map bare_readings o ≡ in_turn (map elaboration.elaborate_form all.now) (spoken_at place.now) next) }
+    ensures made { Spends bank.old bank.new (sum (map limits.form_cost all.now)) }
     ensures extends { Extends bank.old bank.new }
     ensures belongs { IfOk result (λ o. IfSome o (λ r. All (QFormBelongs bank.new) r.0)) }
 {
@@ -109,7 +112,7 @@ fn elaborate_forms(
 
 /// The implication from the first to the second.
 #[cycle(forms)]
-#[tactic(auto, using(crate::proofs::Owning::owning))]
+#[tactic(auto, using(crate::proofs::Owning::owning, crate::proofs::Spending::spending))]
 fn implication(
     alloc: Global,
     bank: &mut Bank,
@@ -119,21 +122,24 @@ fn implication(
     b: &FormSyntax,
 ) -> Result<Option<(QForm, u32)>, NoMemory>
     ensures tree { IfOk result (λ o. option_map bare_reading o ≡ and_then view.Implies (elaboration.elaborate_form a.now) (elaboration.elaborate_form b.now) (spoken_at place.now) next) }
+    ensures made { Spends bank.old bank.new (limits.form_cost a.now + limits.form_cost b.now) }
     ensures extends { Extends bank.old bank.new }
     ensures belongs { IfOk result (λ o. IfSome o (λ r. QFormBelongs bank.new r.0)) }
 {
     let Some((left, after)) = elaborate_form(alloc, bank, place, next, a)? else {
         return Ok(None);
     };
+    let left = Shared::new(alloc, left)?;
     let Some((right, last)) = elaborate_form(alloc, bank, place, after, b)? else {
         return Ok(None);
     };
-    Ok(Some((implies(alloc, left, right)?, last)))
+    let right = Shared::new(alloc, right)?;
+    Ok(Some((QForm::Implies(left, right), last)))
 }
 
 /// The implications both ways, each with binders of its own; rows have none.
 #[cycle(forms)]
-#[tactic(auto, using(crate::proofs::Owning::owning))]
+#[tactic(auto, using(crate::proofs::Owning::owning, crate::proofs::Spending::spending))]
 fn both_ways(
     alloc: Global,
     bank: &mut Bank,
@@ -143,6 +149,7 @@ fn both_ways(
     b: &FormSyntax,
 ) -> Result<Option<(QForm, u32)>, NoMemory>
     ensures tree { IfOk result (λ o. option_map bare_reading o ≡ two_ways (elaboration.elaborate_form a.now) (elaboration.elaborate_form b.now) (spoken_at place.now) next) }
+    ensures made { Spends bank.old bank.new (2 * (limits.form_cost a.now + limits.form_cost b.now)) }
     ensures extends { Extends bank.old bank.new }
     ensures belongs { IfOk result (λ o. IfSome o (λ r. QFormBelongs bank.new r.0)) }
 {
@@ -152,15 +159,22 @@ fn both_ways(
     let Some((there, after)) = implication(alloc, bank, place, next, a, b)? else {
         return Ok(None);
     };
-    let Some((back, last)) = implication(alloc, bank, place, after, b, a)? else {
-        return Ok(None);
-    };
-    Ok(Some((both(alloc, there, back)?, last)))
+    match implication(alloc, bank, place, after, b, a) {
+        Ok(Some((back, last))) => Ok(Some((both(alloc, there, back)?, last))),
+        Ok(None) => {
+            drop(there);
+            Ok(None)
+        }
+        Err(error) => {
+            drop(there);
+            Err(error)
+        }
+    }
 }
 
 /// The formula under quantifiers, one for each binder, the first the outermost.
 #[cycle(forms)]
-#[tactic(auto, using(crate::proofs::Owning::owning))]
+#[tactic(auto, using(crate::proofs::Owning::owning, crate::proofs::Spending::spending))]
 fn quantified(
     alloc: Global,
     bank: &mut Bank,
@@ -171,6 +185,7 @@ fn quantified(
     a: &FormSyntax,
 ) -> Result<Option<(QForm, u32)>, NoMemory>
     ensures tree { IfOk result (λ o. option_map bare_reading o ≡ nested quantifier binders.now (elaboration.elaborate_form a.now) (spoken_at place.now) next) }
+    ensures made { Spends bank.old bank.new (limits.form_cost a.now) }
     ensures extends { Extends bank.old bank.new }
     ensures belongs { IfOk result (λ o. IfSome o (λ r. QFormBelongs bank.new r.0)) }
 {

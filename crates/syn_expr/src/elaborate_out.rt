@@ -6,7 +6,9 @@ ghost use Rattle.syn_form.specs.Elaboration as elaboration;
 ghost use Rattle.syn_form.specs.Plain as plain;
 ghost use Rattle.syn_form.specs.Trees.{bare_form, bare_out};
 ghost use Rattle.syn_expr.specs.Belonging.{FormBelongs, OutBelongs};
-ghost use Rattle.syn_expr.specs.Places.{spoken_at};
+ghost use Rattle.syn_expr.specs.Limits as limits;
+ghost use Rattle.syn_expr.specs.inner.Places.{spoken_at};
+ghost use Rattle.syn_expr.specs.inner.Spending.{Spends};
 
 use crate::elaborate_form::elaborate_form;
 use crate::elaborate_term::elaborate_term;
@@ -18,7 +20,7 @@ use syn_term::{Bank, NoMemory, Shared, Sort, Symbols};
 
 /// The formula without quantifiers that the syntax tree stands for; None where it stands for none.
 /// The one error is want of memory, or of numbers for binders.
-#[tactic(auto, using(crate::proofs::Owning::owning_outs))]
+#[tactic(auto, using(crate::proofs::Owning::owning_outs, crate::proofs::Spending::spending))]
 pub(crate) fn elaborate_plain(
     alloc: Global,
     bank: &mut Bank,
@@ -26,34 +28,36 @@ pub(crate) fn elaborate_plain(
     syntax: &FormSyntax,
 ) -> Result<Option<Form>, NoMemory>
     ensures tree { IfOk result (λ o. option_map bare_form o ≡ elaboration.elaborate_plain (spoken_at place.now) syntax.now) }
+    ensures made { Spends bank.old bank.new (limits.form_cost syntax.now) }
     ensures extends { Extends bank.old bank.new }
     ensures belongs { IfOk result (λ o. IfSome o (FormBelongs bank.new)) }
 {
     match elaborate_form(alloc, bank, place, 1, syntax)? {
         None => Ok(None),
-        Some((f, _)) => without_quantifiers(alloc, &f),
+        Some((f, _)) => {
+            let plain = without_quantifiers(alloc, &f);
+            drop(f);
+            plain
+        }
     }
 }
 
 /// The choice between two arms; None where they don't give terms of one sort.
 #[tactic(auto, using(crate::proofs::Owning::owning_outs))]
-fn choice(alloc: Global, syms: &Symbols, f: Form, u: Out, v: Out) -> Result<Option<Out>, NoMemory>
-    ensures tree { IfOk result (λ o. option_map bare_out o ≡ elaboration.sorted_choice syms.now (bare_form f) (bare_out u) (bare_out v)) }
-    ensures belongs { (b : Kept) → FormBelongs b f → OutBelongs b u → OutBelongs b v → IfOk result (λ o. IfSome o (OutBelongs b)) }
+fn choice(syms: &Symbols, f: Shared<Form>, u: Shared<Out>, v: Shared<Out>) -> Option<Out>
+    ensures tree { option_map bare_out result ≡ elaboration.sorted_choice syms.now (bare_form f) (bare_out u) (bare_out v) }
+    ensures belongs { (b : Kept) → FormBelongs b f → OutBelongs b u → OutBelongs b v → IfSome result (OutBelongs b) }
 {
-    if are_of_one_sort(given_sort(syms, &u), given_sort(syms, &v)) {
-        let f = Shared::new(alloc, f)?;
-        let u = Shared::new(alloc, u)?;
-        let v = Shared::new(alloc, v)?;
-        Ok(Some(Out::If(f, u, v)))
+    if are_of_one_sort(given_sort(syms, u.get()), given_sort(syms, v.get())) {
+        Some(Out::If(f, u, v))
     } else {
-        Ok(None)
+        None
     }
 }
 
 /// The output that the syntax tree stands for; None where a name isn't there, sorts don't fit or a
 /// test has a quantifier. The one error is want of memory, or of numbers for binders.
-#[tactic(auto, using(crate::proofs::Owning::owning_outs))]
+#[tactic(auto, using(crate::proofs::Owning::owning_outs, crate::proofs::Spending::spending))]
 pub(crate) fn elaborate_out(
     alloc: Global,
     bank: &mut Bank,
@@ -61,6 +65,7 @@ pub(crate) fn elaborate_out(
     syntax: &OutSyntax,
 ) -> Result<Option<Out>, NoMemory>
     ensures tree { IfOk result (λ o. option_map bare_out o ≡ elaboration.elaborate_out (spoken_at place.now) syntax.now) }
+    ensures made { Spends bank.old bank.new (limits.out_cost syntax.now) }
     ensures extends { Extends bank.old bank.new }
     ensures belongs { IfOk result (λ o. IfSome o (OutBelongs bank.new)) }
 {
@@ -73,13 +78,16 @@ pub(crate) fn elaborate_out(
             let Some(f) = elaborate_plain(alloc, bank, place, f)? else {
                 return Ok(None);
             };
+            let f = Shared::new(alloc, f)?;
             let Some(u) = elaborate_out(alloc, bank, place, u.get())? else {
                 return Ok(None);
             };
+            let u = Shared::new(alloc, u)?;
             let Some(v) = elaborate_out(alloc, bank, place, v.get())? else {
                 return Ok(None);
             };
-            choice(alloc, place.syms, f, u, v)
+            let v = Shared::new(alloc, v)?;
+            Ok(choice(place.syms, f, u, v))
         }
     }
 }

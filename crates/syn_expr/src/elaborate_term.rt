@@ -1,13 +1,16 @@
 // The term that a syntax tree stands for, made by a bank.
-ghost use Rattle.std.specs.Prelude.{◌≡◌, All, map, IfOk, IfSome};
+ghost use Rattle.std.specs.Prelude.{◌≡◌, ◌+◌, All, map, IfOk, IfSome};
 ghost use Rattle.std.specs.Option.{option_and_then, option_map};
 ghost use Rattle.syn_term.specs.Bank.{Belongs, Extends};
 ghost use Rattle.syn_term.specs.Terms.{bare};
 ghost use Rattle.syn_form.specs.Elaboration as elaboration;
 ghost use Rattle.syn_form.specs.Elaboration.{sorted_application};
-ghost use Rattle.syn_expr.specs.Elaborating.{next_tree};
-ghost use Rattle.syn_expr.specs.Places.{spoken_at};
+ghost use Rattle.syn_expr.specs.inner.Elaborating.{next_tree};
+ghost use Rattle.syn_expr.specs.Limits as limits;
+ghost use Rattle.syn_expr.specs.inner.Places.{spoken_at};
+ghost use Rattle.syn_expr.specs.inner.Spending.{Spends};
 
+use crate::limits::LARGEST_NUMBER;
 use crate::lookups::{head_symbol, head_var, symbol_named, written_sort};
 use crate::names::Inside;
 use sqlite_items::Items;
@@ -16,7 +19,7 @@ use syn_form::{HeadName, TermSyntax};
 use syn_term::{Bank, NoMemory, SymId, Symbols, Term, Text, Var};
 
 /// The symbol with the arguments; None where there is no symbol, or it doesn't take them.
-#[tactic(auto, using(crate::proofs::Growth::growth))]
+#[tactic(auto, using(crate::proofs::Growth::growth, crate::proofs::Spending::spending))]
 fn applied(
     alloc: Global,
     bank: &mut Bank,
@@ -26,6 +29,7 @@ fn applied(
 ) -> Result<Option<Term>, NoMemory>
     requires { All (Belongs bank.old) args.now }
     ensures tree { IfOk result (λ o. option_map bare o ≡ option_and_then (sorted_application syms.now (map bare args.now)) symbol) }
+    ensures made { Spends bank.old bank.new 1 }
     ensures extends { Extends bank.old bank.new }
     ensures belongs { IfOk result (λ o. IfSome o (Belongs bank.new)) }
 {
@@ -36,7 +40,7 @@ fn applied(
 }
 
 /// The successor of the term, where there is one and `s` takes it.
-#[tactic(auto, using(crate::proofs::Growth::growth))]
+#[tactic(auto, using(crate::proofs::Growth::growth, crate::proofs::Spending::spending))]
 fn successor(
     alloc: Global,
     bank: &mut Bank,
@@ -45,6 +49,7 @@ fn successor(
 ) -> Result<Option<Term>, NoMemory>
     requires { IfSome term (Belongs bank.old) }
     ensures tree { IfOk result (λ o. option_map bare o ≡ option_and_then (next_tree syms.now) (option_map bare term)) }
+    ensures made { Spends bank.old bank.new 1 }
     ensures extends { Extends bank.old bank.new }
     ensures belongs { IfOk result (λ o. IfSome o (Belongs bank.new)) }
 {
@@ -55,7 +60,7 @@ fn successor(
 }
 
 /// So many times `s` over `0`.
-#[tactic(auto, using(crate::proofs::Growth::growth))]
+#[tactic(auto, using(crate::proofs::Growth::growth, crate::proofs::Spending::spending))]
 fn successors(
     alloc: Global,
     bank: &mut Bank,
@@ -63,6 +68,7 @@ fn successors(
     count: u32,
 ) -> Result<Option<Term>, NoMemory>
     ensures tree { IfOk result (λ o. option_map bare o ≡ elaboration.successors syms.now count) }
+    ensures made { Spends bank.old bank.new (count + 1) }
     ensures extends { Extends bank.old bank.new }
     ensures belongs { IfOk result (λ o. IfSome o (Belongs bank.new)) }
 {
@@ -74,7 +80,7 @@ fn successors(
 }
 
 /// The term that a number stands for.
-#[tactic(auto, using(crate::proofs::Growth::growth))]
+#[tactic(auto, using(crate::proofs::Growth::growth, crate::proofs::Spending::spending))]
 fn number_term(
     alloc: Global,
     bank: &mut Bank,
@@ -82,10 +88,11 @@ fn number_term(
     number: u32,
 ) -> Result<Option<Term>, NoMemory>
     ensures tree { IfOk result (λ o. option_map bare o ≡ elaboration.number_tree syms.now number) }
+    ensures made { Spends bank.old bank.new (number + 1) }
     ensures extends { Extends bank.old bank.new }
     ensures belongs { IfOk result (λ o. IfSome o (Belongs bank.new)) }
 {
-    if 1000 < number {
+    if LARGEST_NUMBER < number {
         Ok(None)
     } else {
         successors(alloc, bank, syms, number)
@@ -94,7 +101,7 @@ fn number_term(
 
 /// The row variable with the number and the sort; None outside of rows, or where no sort has the
 /// name.
-#[tactic(auto, using(crate::proofs::Growth::growth))]
+#[tactic(auto, using(crate::proofs::Growth::growth, crate::proofs::Spending::spending))]
 fn row_term(
     alloc: Global,
     bank: &mut Bank,
@@ -103,6 +110,7 @@ fn row_term(
     sort: &Option<Text>,
 ) -> Result<Option<Term>, NoMemory>
     ensures tree { IfOk result (λ o. option_map bare o ≡ elaboration.row_tree (spoken_at place.now) number sort.now) }
+    ensures made { Spends bank.old bank.new 1 }
     ensures extends { Extends bank.old bank.new }
     ensures belongs { IfOk result (λ o. IfSome o (Belongs bank.new)) }
 {
@@ -116,7 +124,7 @@ fn row_term(
 }
 
 /// The term that a head stands for by itself.
-#[tactic(auto, using(crate::proofs::Growth::growth))]
+#[tactic(auto, using(crate::proofs::Growth::growth, crate::proofs::Spending::spending))]
 fn head_term(
     alloc: Global,
     bank: &mut Bank,
@@ -124,6 +132,7 @@ fn head_term(
     head: &HeadName,
 ) -> Result<Option<Term>, NoMemory>
     ensures tree { IfOk result (λ o. option_map bare o ≡ elaboration.alone_tree (spoken_at place.now) head.now (elaboration.head_var (spoken_at place.now) head.now)) }
+    ensures made { Spends bank.old bank.new 1 }
     ensures extends { Extends bank.old bank.new }
     ensures belongs { IfOk result (λ o. IfSome o (Belongs bank.new)) }
 {
@@ -135,7 +144,7 @@ fn head_term(
 
 /// The term that the syntax tree stands for, None where a name isn't there or a symbol doesn't take
 /// its arguments. The one error is want of memory.
-#[tactic(auto, using(crate::proofs::Growth::growth))]
+#[tactic(auto, using(crate::proofs::Growth::growth, crate::proofs::Spending::spending))]
 pub(crate) fn elaborate_term(
     alloc: Global,
     bank: &mut Bank,
@@ -143,6 +152,7 @@ pub(crate) fn elaborate_term(
     syntax: &TermSyntax,
 ) -> Result<Option<Term>, NoMemory>
     ensures tree { IfOk result (λ o. option_map bare o ≡ elaboration.elaborate_term (spoken_at place.now) syntax.now) }
+    ensures made { Spends bank.old bank.new (limits.term_cost syntax.now) }
     ensures extends { Extends bank.old bank.new }
     ensures belongs { IfOk result (λ o. IfSome o (Belongs bank.new)) }
 {

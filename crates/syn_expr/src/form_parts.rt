@@ -1,5 +1,5 @@
 // Formulas made from their parts: atoms and equalities from syntax trees, the rest from what was read.
-ghost use Rattle.std.specs.Prelude.{◌≡◌, [], ◌∷◌, All, map, IfOk, IfSome};
+ghost use Rattle.std.specs.Prelude.{◌≡◌, ◌+◌, [], ◌∷◌, All, map, sum, IfOk, IfSome};
 ghost use Rattle.std.specs.Option.{option_and_then, option_map};
 ghost use Rattle.syn_term.specs.Bank.{Belongs, Extends, Kept};
 ghost use Rattle.syn_term.specs.Terms.{bare};
@@ -9,8 +9,10 @@ ghost use Rattle.syn_form.specs.Lists.{all_there};
 ghost use Rattle.syn_form.specs.Quantified.{bare_qform};
 ghost use Rattle.syn_form.specs.declared.trees.QForm.TheViews as view;
 ghost use Rattle.syn_expr.specs.Belonging.{QFormBelongs};
-ghost use Rattle.syn_expr.specs.Elaborating.{bare_reading, bare_readings};
-ghost use Rattle.syn_expr.specs.Places.{spoken_at};
+ghost use Rattle.syn_expr.specs.inner.Elaborating.{bare_reading, bare_readings};
+ghost use Rattle.syn_expr.specs.Limits as limits;
+ghost use Rattle.syn_expr.specs.inner.Places.{spoken_at};
+ghost use Rattle.syn_expr.specs.inner.Spending.{Spends};
 
 use crate::elaborate_term::elaborate_term;
 use crate::lookups::symbol_named;
@@ -21,7 +23,7 @@ use syn_form::{Binder, QForm, Quantifier, TermSyntax, are_of_one_sort, is_atom, 
 use syn_term::{Bank, NoMemory, Shared, SymId, Symbols, Term, Text};
 
 /// The terms that the syntax trees stand for; None where one stands for none.
-#[tactic(auto, using(crate::proofs::Growth::growth))]
+#[tactic(auto, using(crate::proofs::Growth::growth, crate::proofs::Spending::spending))]
 fn elaborate_terms(
     alloc: Global,
     bank: &mut Bank,
@@ -29,6 +31,7 @@ fn elaborate_terms(
     all: &[TermSyntax],
 ) -> Result<Option<Items<Term>>, NoMemory>
     ensures tree { IfOk result (λ o. option_map (map bare) o ≡ all_there (map (elaboration.elaborate_term (spoken_at place.now)) all.now)) }
+    ensures made { Spends bank.old bank.new (sum (map limits.term_cost all.now)) }
     ensures extends { Extends bank.old bank.new }
     ensures belongs { IfOk result (λ o. IfSome o (All (Belongs bank.new))) }
 {
@@ -63,7 +66,7 @@ fn atom(
 }
 
 /// The atom that a name with arguments stands for.
-#[tactic(auto, using(crate::proofs::Owning::owning))]
+#[tactic(auto, using(crate::proofs::Owning::owning, crate::proofs::Spending::spending))]
 pub(crate) fn elaborate_atom(
     alloc: Global,
     bank: &mut Bank,
@@ -72,6 +75,7 @@ pub(crate) fn elaborate_atom(
     args: &[TermSyntax],
 ) -> Result<Option<QForm>, NoMemory>
     ensures tree { IfOk result (λ o. option_map bare_qform o ≡ elaboration.atom_tree (spoken_at place.now) name.now (map (elaboration.elaborate_term (spoken_at place.now)) args.now)) }
+    ensures made { Spends bank.old bank.new (sum (map limits.term_cost args.now)) }
     ensures extends { Extends bank.old bank.new }
     ensures belongs { IfOk result (λ o. IfSome o (QFormBelongs bank.new)) }
 {
@@ -103,7 +107,7 @@ fn equality(syms: &Symbols, s: Term, t: Term) -> Option<QForm>
 }
 
 /// The equality that two sides stand for.
-#[tactic(auto, using(crate::proofs::Owning::owning))]
+#[tactic(auto, using(crate::proofs::Owning::owning, crate::proofs::Spending::spending))]
 pub(crate) fn elaborate_equality(
     alloc: Global,
     bank: &mut Bank,
@@ -112,6 +116,7 @@ pub(crate) fn elaborate_equality(
     t: &TermSyntax,
 ) -> Result<Option<QForm>, NoMemory>
     ensures tree { IfOk result (λ o. option_map bare_qform o ≡ elaboration.equality_tree (spoken_at place.now) (elaboration.elaborate_term (spoken_at place.now) s.now) (elaboration.elaborate_term (spoken_at place.now) t.now)) }
+    ensures made { Spends bank.old bank.new (limits.term_cost s.now + limits.term_cost t.now) }
     ensures extends { Extends bank.old bank.new }
     ensures belongs { IfOk result (λ o. IfSome o (QFormBelongs bank.new)) }
 {
@@ -181,21 +186,21 @@ pub(crate) fn disjunction(
     }
 }
 
-/// The implication from the first to the second.
-pub(crate) fn implies(alloc: Global, a: QForm, b: QForm) -> Result<QForm, NoMemory>
-    ensures { IfOk result (λ f. f ≡ view.Implies a b) }
-{
-    Ok(QForm::Implies(Shared::new(alloc, a)?, Shared::new(alloc, b)?))
-}
-
 /// The `and` of two formulas.
 pub(crate) fn both(alloc: Global, a: QForm, b: QForm) -> Result<QForm, NoMemory>
     ensures { IfOk result (λ f. f ≡ view.And (a ∷ b ∷ [])) }
 {
     let mut all = Items::new(alloc);
-    all.push(a)?;
-    all.push(b)?;
-    Ok(QForm::And(Shared::new(alloc, all)?))
+    match all.push(a) {
+        Ok(()) => {
+            all.push(b)?;
+            Ok(QForm::And(Shared::new(alloc, all)?))
+        }
+        Err(_) => {
+            drop(b);
+            Err(NoMemory)
+        }
+    }
 }
 
 /// The formula under a quantifier.

@@ -6,6 +6,21 @@ ghost use Rattle.syn_expr.specs.Limits as limits;
 
 use syn_form::{FormSyntax, OutSyntax, TermSyntax};
 
+/// The most nodes that an expression has.
+pub(crate) const MOST_NODES: u32 = 4_096;
+
+/// The most levels that an expression has.
+pub(crate) const MOST_LEVELS: u32 = 1_200;
+
+/// The most nodes that the body of a program has.
+pub(crate) const MOST_BODY_NODES: u32 = 262_144;
+
+/// The most levels that the body of a program has.
+pub(crate) const MOST_BODY_LEVELS: u32 = 1_264;
+
+/// The largest number that is read and printed as one.
+pub(crate) const LARGEST_NUMBER: u32 = 1_000;
+
 /// The number, or `cap + 1` where it is more than `cap`.
 fn capped(number: u64, cap: u32) -> u64
     ensures { result ≡ min number (cap + 1) }

@@ -7,20 +7,21 @@ ghost use Rattle.syn_term.specs.Symbols.{names_of};
 ghost use Rattle.syn_term.specs.Tokens as words;
 ghost use Rattle.syn_form.specs.Elaboration as elaboration;
 ghost use Rattle.syn_form.specs.Elaboration.{sym_id};
-ghost use Rattle.syn_expr.specs.Elaborating as elaborating;
-ghost use Rattle.syn_expr.specs.Places.{given, names_at, spoken_at};
+ghost use Rattle.syn_expr.specs.inner.Elaborating as elaborating;
+ghost use Rattle.syn_expr.specs.Scopes.{listed};
+ghost use Rattle.syn_expr.specs.inner.Places.{names_at, spoken_at};
 
-use crate::names::{Inside, Names};
+use crate::names::{Inside, NamedVars};
 use syn_form::{BinderSyntax, HeadName};
 use syn_term::{Sort, SymId, Symbols, Text, Var, is_reserved};
 
 /// The variable with the name, the innermost where several have it.
-pub(crate) fn var_named(names: &Names, name: &str) -> Option<Var>
+pub(crate) fn var_named(names: &NamedVars, name: &str) -> Option<Var>
     ensures { result ≡ elaboration.var_named (names_at names.now) name.now }
 {
     match names {
-        Names::Given(names) => given_var(names, name),
-        Names::Bound(binder, outer) => {
+        NamedVars::Given(names) => given_var(names, name),
+        NamedVars::Bound(binder, outer) => {
             if binder.name.as_str() == name {
                 Some(binder.var)
             } else {
@@ -32,7 +33,7 @@ pub(crate) fn var_named(names: &Names, name: &str) -> Option<Var>
 
 /// The variable with the name among these, the first where there are several.
 fn given_var(names: &[(String, Var)], name: &str) -> Option<Var>
-    ensures { result ≡ elaboration.var_named (given names.now) name.now }
+    ensures { result ≡ elaboration.var_named (listed names.now) name.now }
 {
     for i in 0..names.len() {
         if names[i].0.as_str() == name {
@@ -137,7 +138,7 @@ fn names_sort(syms: &Symbols, name: &str) -> bool
 }
 
 /// Whether a variable has the name.
-fn names_var(names: &Names, name: &str) -> bool
+fn names_var(names: &NamedVars, name: &str) -> bool
     ensures { result ≡ list_any (λ v. bytes_eq name.now v.text) (names_at names.now) }
 {
     var_named(names, name).is_some()

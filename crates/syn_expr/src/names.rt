@@ -3,10 +3,11 @@
 // so a name in scope takes no memory.
 ghost use Rattle.std.specs.Prelude.{◌≡◌};
 ghost use Rattle.std.specs.Option.{option_map};
+ghost use Rattle.syn_term.specs.DeclaredSorts.{IsTable};
 ghost use Rattle.syn_term.specs.Symbols.{symbol_at};
 ghost use Rattle.syn_form.specs.Printing.{in_scope_of, name_for, name_of, sort_text};
-ghost use Rattle.syn_expr.specs.Places.{given, names_at, spoken_at};
-ghost use Rattle.syn_expr.specs.Scopes.{spoken};
+ghost use Rattle.syn_expr.specs.inner.Places.{names_at, spoken_at};
+ghost use Rattle.syn_expr.specs.Scopes.{listed, spoken};
 
 use crate::scope::Scope;
 use syn_form::Binder;
@@ -15,17 +16,24 @@ use syn_term::{Kind, Sort, SymId, Symbols, Var};
 /// The variables by their names: those of a scope, or one that a quantifier binds and those
 /// outside of it.
 #[derive(Clone, Copy)]
-pub(crate) enum Names<'a> {
+pub(crate) enum NamedVars<'a> {
     Given(&'a [(String, Var)]),
-    Bound(&'a Binder, &'a Names<'a>),
+    Bound(&'a Binder, &'a NamedVars<'a>),
 }
 
 /// What a text may speak of at a place inside it.
 #[derive(Clone, Copy)]
 pub(crate) struct Inside<'a> {
     pub(crate) syms: &'a Symbols,
-    pub(crate) names: Names<'a>,
+    pub(crate) names: NamedVars<'a>,
     pub(crate) rows: bool,
+}
+
+/// Nothing: what is told is that the table is well formed, as each look at it tells.
+pub(crate) fn look(syms: &Symbols)
+    ensures { IsTable syms.now }
+{
+    let _ = syms.sort_name(Sort::Nat);
 }
 
 /// The place outside of all quantifiers.
@@ -34,7 +42,7 @@ pub(crate) fn outside<'a>(scope: &Scope<'a>) -> Inside<'a>
 {
     Inside {
         syms: scope.syms,
-        names: Names::Given(scope.names),
+        names: NamedVars::Given(scope.names),
         rows: scope.rows,
     }
 }
@@ -45,18 +53,18 @@ pub(crate) fn within<'a>(place: &'a Inside<'a>, binder: &'a Binder) -> Inside<'a
 {
     Inside {
         syms: place.syms,
-        names: Names::Bound(binder, &place.names),
+        names: NamedVars::Bound(binder, &place.names),
         rows: place.rows,
     }
 }
 
 /// The name of the variable with this number, the innermost first; the empty text where none is.
-pub(crate) fn name_for<'a>(names: &Names<'a>, number: u32) -> &'a str
+pub(crate) fn name_for<'a>(names: &NamedVars<'a>, number: u32) -> &'a str
     ensures { result.now ≡ name_for (names_at names.now) number }
 {
     match names {
-        Names::Given(names) => given_name(names, number),
-        Names::Bound(binder, outer) => {
+        NamedVars::Given(names) => given_name(names, number),
+        NamedVars::Bound(binder, outer) => {
             if binder.var.number == number {
                 binder.name.as_str()
             } else {
@@ -68,7 +76,7 @@ pub(crate) fn name_for<'a>(names: &Names<'a>, number: u32) -> &'a str
 
 /// The name among these of the variable with this number, the first one where there are several.
 fn given_name<'a>(names: &'a [(String, Var)], number: u32) -> &'a str
-    ensures { result.now ≡ name_for (given names.now) number }
+    ensures { result.now ≡ name_for (listed names.now) number }
 {
     for i in 0..names.len() {
         if names[i].1.number == number {

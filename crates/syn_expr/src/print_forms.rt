@@ -6,11 +6,12 @@ ghost use Rattle.syn_form.specs.Printing.{atom_text, equality_text, inner, joine
 ghost use Rattle.syn_expr.specs.Readable.{IsReadableForm};
 ghost use Rattle.syn_form.specs.Texts.{IsFormOf};
 ghost use Rattle.syn_form.specs.Trees.{bare_form};
-ghost use Rattle.syn_expr.specs.Places.{spoken_at};
-ghost use Rattle.syn_expr.specs.Reading.{ReadsBack};
+ghost use Rattle.syn_expr.specs.inner.Places.{spoken_at};
+ghost use Rattle.syn_expr.specs.Told.{IsToldForm};
+ghost use Rattle.syn_expr.specs.TextAnswers.{ReadsBack};
 ghost use Rattle.syn_expr.specs.Scopes.{spoken};
 
-use crate::names::{Inside, outside, symbol_name};
+use crate::names::{Inside, look, outside, symbol_name};
 use crate::print_terms::{put_args, put_term};
 use crate::scope::Scope;
 use crate::text::{put, separator};
@@ -34,12 +35,14 @@ pub(crate) const OPEN: &str = "(";
 
 pub(crate) const CLOSE: &str = ")";
 
-/// The one text of the formula. A plain formula within a limit that the scope can read, printed, reads
-/// back. The one error is want of memory.
+/// The one text of the formula. A plain formula within a limit reads back where its variables are
+/// told apart, and so does each that the scope can read. The one error is want of memory.
 pub fn print_form(alloc: Global, scope: &Scope, f: &Form) -> Result<String, NoMemory>
     ensures text { IfOk result (λ text. string_bytes text ≡ printed_form (spoken scope.now) f.now) }
-    ensures reads_back { IfOk result (λ text. ReadsBack bare_form (λ l. IsFormOf l (spoken scope.now)) (λ l. IsReadableForm l (spoken scope.now)) (string_bytes text) f.now) }
+    ensures reads_back { IfOk result (λ text. ReadsBack bare_form (λ l. IsFormOf l (spoken scope.now)) (λ l. IsToldForm l (spoken scope.now)) (string_bytes text) f.now) }
+    ensures readable { IfOk result (λ text. ReadsBack bare_form (λ l. IsFormOf l (spoken scope.now)) (λ l. IsReadableForm l (spoken scope.now)) (string_bytes text) f.now) }
 {
+    look(scope.syms);
     form_text(alloc, scope, f)
 }
 

@@ -4,11 +4,12 @@ ghost use Rattle.syn_form.specs.Printing.{printed_out};
 ghost use Rattle.syn_expr.specs.Readable.{IsReadableOut};
 ghost use Rattle.syn_form.specs.Texts.{IsOutOf};
 ghost use Rattle.syn_form.specs.Trees.{bare_out};
-ghost use Rattle.syn_expr.specs.Places.{spoken_at};
-ghost use Rattle.syn_expr.specs.Reading.{ReadsBack};
+ghost use Rattle.syn_expr.specs.inner.Places.{spoken_at};
+ghost use Rattle.syn_expr.specs.Told.{IsToldOut};
+ghost use Rattle.syn_expr.specs.TextAnswers.{ReadsBack};
 ghost use Rattle.syn_expr.specs.Scopes.{spoken};
 
-use crate::names::{Inside, outside};
+use crate::names::{Inside, look, outside};
 use crate::print_forms::put_form;
 use crate::print_terms::put_term;
 use crate::scope::Scope;
@@ -17,12 +18,14 @@ use std::alloc::Global;
 use syn_form::Out;
 use syn_term::NoMemory;
 
-/// The one text of the output. A plain output within a limit that the scope can read, printed, reads
-/// back. The one error is want of memory.
+/// The one text of the output. A plain output within a limit reads back where its variables are told
+/// apart, and so does each that the scope can read. The one error is want of memory.
 pub fn print_out(alloc: Global, scope: &Scope, o: &Out) -> Result<String, NoMemory>
     ensures text { IfOk result (λ text. string_bytes text ≡ printed_out (spoken scope.now) o.now) }
-    ensures reads_back { IfOk result (λ text. ReadsBack bare_out (λ l. IsOutOf l (spoken scope.now)) (λ l. IsReadableOut l (spoken scope.now)) (string_bytes text) o.now) }
+    ensures reads_back { IfOk result (λ text. ReadsBack bare_out (λ l. IsOutOf l (spoken scope.now)) (λ l. IsToldOut l (spoken scope.now)) (string_bytes text) o.now) }
+    ensures readable { IfOk result (λ text. ReadsBack bare_out (λ l. IsOutOf l (spoken scope.now)) (λ l. IsReadableOut l (spoken scope.now)) (string_bytes text) o.now) }
 {
+    look(scope.syms);
     out_text(alloc, scope, o)
 }
 

@@ -5,11 +5,12 @@ ghost use Rattle.syn_form.specs.Printing.{inner, joined, printed_qform, printing
 ghost use Rattle.syn_expr.specs.Readable.{IsReadableQForm};
 ghost use Rattle.syn_form.specs.Texts.{IsQFormOf};
 ghost use Rattle.syn_form.specs.Quantified.{bare_qform};
-ghost use Rattle.syn_expr.specs.Places.{binder_text, spoken_at};
-ghost use Rattle.syn_expr.specs.Reading.{ReadsBack};
-ghost use Rattle.syn_expr.specs.Scopes.{spoken};
+ghost use Rattle.syn_expr.specs.inner.Places.{binder_text, spoken_at};
+ghost use Rattle.syn_expr.specs.Told.{IsClosedQForm};
+ghost use Rattle.syn_expr.specs.TextAnswers.{ReadsBack};
+ghost use Rattle.syn_expr.specs.Scopes.{LeavesNumbersToBinders, spoken};
 
-use crate::names::{Inside, outside, sort_name, within};
+use crate::names::{Inside, look, outside, sort_name, within};
 use crate::print_forms::{AND, CLOSE, FALSE, IMPLIES, NOT, OPEN, OR, TRUE, put_atom, put_equality};
 use crate::scope::Scope;
 use crate::text::{put, separator};
@@ -17,12 +18,16 @@ use std::alloc::Global;
 use syn_form::{Binder, QForm};
 use syn_term::NoMemory;
 
-/// The one text of the formula. A plain formula within a limit that the scope can read, printed, reads
-/// back. The one error is want of memory.
+/// The one text of the formula. A plain formula within a limit reads back where it has no free
+/// variables and the scope no names, and so does each that the scope can read. The one error is want
+/// of memory.
 pub fn print_qform(alloc: Global, scope: &Scope, f: &QForm) -> Result<String, NoMemory>
+    requires { LeavesNumbersToBinders (spoken scope.now) }
     ensures text { IfOk result (λ text. string_bytes text ≡ printed_qform (spoken scope.now) f.now) }
-    ensures reads_back { IfOk result (λ text. ReadsBack bare_qform (λ l. IsQFormOf l (spoken scope.now)) (λ l. IsReadableQForm l (spoken scope.now)) (string_bytes text) f.now) }
+    ensures reads_back { IfOk result (λ text. ReadsBack bare_qform (λ l. IsQFormOf l (spoken scope.now)) (λ l. IsClosedQForm l (spoken scope.now)) (string_bytes text) f.now) }
+    ensures readable { IfOk result (λ text. ReadsBack bare_qform (λ l. IsQFormOf l (spoken scope.now)) (λ l. IsReadableQForm l (spoken scope.now)) (string_bytes text) f.now) }
 {
+    look(scope.syms);
     qform_text(alloc, scope, f)
 }
 

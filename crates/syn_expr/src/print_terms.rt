@@ -5,22 +5,26 @@ ghost use Rattle.syn_form.specs.Printing.{printed_term, printing_of, row_text, v
 ghost use Rattle.syn_expr.specs.Readable.{IsReadableTerm};
 ghost use Rattle.syn_form.specs.Texts.{IsTermOf};
 ghost use Rattle.syn_term.specs.Terms.{bare};
-ghost use Rattle.syn_expr.specs.Places.{arguments_text, next_number, spoken_at};
-ghost use Rattle.syn_expr.specs.Reading.{ReadsBack};
+ghost use Rattle.syn_expr.specs.inner.Places.{arguments_text, next_number, spoken_at};
+ghost use Rattle.syn_expr.specs.Told.{IsToldTerm};
+ghost use Rattle.syn_expr.specs.TextAnswers.{ReadsBack};
 ghost use Rattle.syn_expr.specs.Scopes.{spoken};
 
-use crate::names::{Inside, name_for, outside, sort_name, symbol_kind, symbol_name};
+use crate::limits::LARGEST_NUMBER;
+use crate::names::{Inside, look, name_for, outside, sort_name, symbol_kind, symbol_name};
 use crate::scope::Scope;
 use crate::text::{put, put_number, separator};
 use std::alloc::Global;
 use syn_term::{Kind, NoMemory, Node, Sort, Symbols, Term, Var};
 
-/// The one text of the term. A plain term within a limit that the scope can read, printed, reads
-/// back. The one error is want of memory.
+/// The one text of the term. A plain term within a limit reads back where its variables are told
+/// apart, and so does each that the scope can read. The one error is want of memory.
 pub fn print_term(alloc: Global, scope: &Scope, t: &Term) -> Result<String, NoMemory>
     ensures text { IfOk result (λ text. string_bytes text ≡ printed_term (spoken scope.now) t.now) }
-    ensures reads_back { IfOk result (λ text. ReadsBack bare (λ l. IsTermOf l (spoken scope.now)) (λ l. IsReadableTerm l (spoken scope.now)) (string_bytes text) t.now) }
+    ensures reads_back { IfOk result (λ text. ReadsBack bare (λ l. IsTermOf l (spoken scope.now)) (λ l. IsToldTerm l (spoken scope.now)) (string_bytes text) t.now) }
+    ensures readable { IfOk result (λ text. ReadsBack bare (λ l. IsTermOf l (spoken scope.now)) (λ l. IsReadableTerm l (spoken scope.now)) (string_bytes text) t.now) }
 {
+    look(scope.syms);
     term_text(alloc, scope, t)
 }
 
@@ -111,7 +115,7 @@ fn next_number(number: Option<u32>) -> Option<u32>
     ensures { result ≡ next_number number }
 {
     match number {
-        Some(n) if n < 1000 => Some(n + 1),
+        Some(n) if n < LARGEST_NUMBER => Some(n + 1),
         _ => None,
     }
 }

@@ -1,15 +1,21 @@
-use Rattle.std.proofs.Common.{◌∙◌, ap}
-use Rattle.syn_form.specs.Elaboration.{elaborate_plain}
-use Rattle.syn_form.specs.Scopes.{TextScope}
+use Rattle.std.proofs.Common.{arith}
+use Rattle.syn_expr.specs.inner.Accepting.{limit_of}
+use Rattle.syn_expr.specs.inner.Spending.{made}
 use Rattle.syn_expr.specs.Scopes.{spoken}
-use Rattle.syn_expr.proofs.Taking.{form_counted, form_sorts, form_taken}
+use Rattle.syn_expr.proofs.Taking.{form_counted, not_past}
 use Rattle.syn_expr.proofs.accepting.taken_form.Goals as goal
 
-pub returns-then-not-form_fits-clause-tree : goal.returns-then-not-form_fits-clause-tree
-returns-then-not-form_fits-clause-tree c = form_counted (spoken c.args.scope.now) c.args.syntax.now c.args.nodes c.args.depth _ c.form_fits.ensures c.if-not-form_fits.true
+pub fitting_form-requires : goal.fitting_form-requires
+fitting_form-requires c = c.form_fits.ensures.0 c.if-form_fits.true
 
-pub returns-then-not-branch-clause-tree : goal.returns-then-not-branch-clause-tree
-returns-then-not-branch-clause-tree c = form_sorts (spoken c.args.scope.now) c.args.syntax.now c.args.nodes c.args.depth _ _ c.in-Some.is (c.in_ok-f.ensures.tree ∙ ap (λ (z : TextScope). elaborate_plain z c.args.syntax.now) c.outside.ensures) _ c.in_ok-form_has_one_sort_each.ensures c.if-not-branch.true
+pub returns-then-form_fits-clause-past : goal.returns-then-form_fits-clause-past
+returns-then-form_fits-clause-past c = not_past (limit_of c.args.nodes c.args.depth) _ _ (c.form_fits.ensures.0 c.if-form_fits.true)
 
-pub returns-clause-tree : goal.returns-clause-tree
-returns-clause-tree c = form_taken (spoken c.args.scope.now) c.args.syntax.now c.args.nodes c.args.depth _ _ c.in-Some.is (c.in_ok-f.ensures.tree ∙ ap (λ (z : TextScope). elaborate_plain z c.args.syntax.now) c.outside.ensures) _ c.in_ok-form_has_one_sort_each.ensures _ c.form_fits.ensures c.if-not-form_fits.false c.if-not-branch.false
+pub returns-then-form_fits-clause-made : goal.returns-then-form_fits-clause-made
+returns-then-form_fits-clause-made c =
+    let spent = made _ _ _ c.fitting_form.ensures.made in
+    let few = (c.form_fits.ensures.0 c.if-form_fits.true).0 in
+    omega (arith, spent, few)
+
+pub returns-else-form_fits-clause-tree : goal.returns-else-form_fits-clause-tree
+returns-else-form_fits-clause-tree c = form_counted (spoken c.args.scope.now) c.args.syntax.now c.args.nodes c.args.depth _ c.form_fits.ensures c.if-form_fits.false

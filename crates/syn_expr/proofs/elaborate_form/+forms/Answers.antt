@@ -1,9 +1,13 @@
-use Rattle.std.proofs.Common.{◌≡◌, ◌+◌, ◌*◌, ◌<◌, Some, ◌∙◌, arith}
+use Rattle.std.proofs.Common.{◌≡◌, ◌+◌, ◌*◌, ◌<◌, Some, ◌∙◌, subst, arith}
 use Rattle.syn_term.specs.Bank.{Extends-trans}
+use Rattle.syn_form.specs.declared.syntax.FormSyntax.{FormSyntax}
 use Rattle.syn_form.specs.Elaboration.{elaborate_form}
-use Rattle.syn_expr.specs.Places.{spoken_at}
+use Rattle.syn_expr.specs.Limits.{form_cost}
+use Rattle.syn_expr.specs.inner.Spending.{Spends}
+use Rattle.syn_expr.specs.inner.Places.{spoken_at}
 use Rattle.syn_expr.proofs.FormMaking.{both, form_read, not_bound, none_inside, put_under}
 use Rattle.syn_expr.proofs.Owning.{all_own, some_owned}
+use Rattle.syn_expr.proofs.Spending.{back_spent, item_spent, items_spent, quantified_spent}
 use Rattle.syn_expr.proofs.Weights.{weight, weighs_less}
 use Rattle.syn_expr.proofs.elaborate_form.+forms.Goals as goal
 
@@ -19,6 +23,7 @@ elaborate_forms-loop-syntax-preserved t c =
       c.loop-syntax.invariant.0 ∙ form_read (spoken_at c.args.place.now) _ _ _ _ _ _ _ _ _ c.loop-syntax-test.true c.syntax-item.is c.in_ok-elaborate_form.ensures.tree read c.in_ok-push-in-Some.ensures.ok,
       all_own _ _ _ _ _ c.elaborate_form.ensures.extends c.loop-syntax.invariant.1 (some_owned _ _ _ _ read c.in_ok-elaborate_form.ensures.belongs) c.in_ok-push-in-Some.ensures.ok,
       Extends-trans _ _ _ c.loop-syntax.invariant.2 c.elaborate_form.ensures.extends,
+      item_spent _ _ _ _ c.loop-syntax-test.true c.syntax-item.is _ _ _ c.loop-syntax.invariant.3 c.elaborate_form.ensures.made,
     )
 
 pub quantified-returns-in_default-clause-tree : goal.quantified-returns-in_default-clause-tree
@@ -45,3 +50,27 @@ elaborate_form-returns-in_ok-read-in-And-clause-belongs t c = c.conjunction.ensu
 
 pub elaborate_form-returns-in_ok-read-in-Or-clause-belongs : goal.elaborate_form-returns-in_ok-read-in-Or-clause-belongs
 elaborate_form-returns-in_ok-read-in-Or-clause-belongs t c = c.disjunction.ensures.belongs _ c.in_ok-read-in-Or.ensures.belongs
+
+pub elaborate_forms-returns-in_err-elaborate_form-clause-made : goal.elaborate_forms-returns-in_err-elaborate_form-clause-made
+elaborate_forms-returns-in_err-elaborate_form-clause-made t c = items_spent _ _ _ _ c.loop-syntax-test.true c.syntax-item.is _ _ _ c.loop-syntax.invariant.3 c.elaborate_form.ensures.made
+
+pub elaborate_forms-returns-in-None-clause-made : goal.elaborate_forms-returns-in-None-clause-made
+elaborate_forms-returns-in-None-clause-made t c = items_spent _ _ _ _ c.loop-syntax-test.true c.syntax-item.is _ _ _ c.loop-syntax.invariant.3 c.elaborate_form.ensures.made
+
+pub elaborate_forms-returns-in_err-push-in-Some-clause-made : goal.elaborate_forms-returns-in_err-push-in-Some-clause-made
+elaborate_forms-returns-in_err-push-in-Some-clause-made t c = items_spent _ _ _ _ c.loop-syntax-test.true c.syntax-item.is _ _ _ c.loop-syntax.invariant.3 c.elaborate_form.ensures.made
+
+pub both_ways-returns-in-Err-clause-made : goal.both_ways-returns-in-Err-clause-made
+both_ways-returns-in-Err-clause-made t c = back_spent _ _ _ _ c.implication.ensures.made _ c.implication-2.ensures.made
+
+pub both_ways-returns-in-Ok-None-clause-made : goal.both_ways-returns-in-Ok-None-clause-made
+both_ways-returns-in-Ok-None-clause-made t c = back_spent _ _ _ _ c.implication.ensures.made _ c.implication-2.ensures.made
+
+pub both_ways-returns-in_err-both-in-Ok-Some-clause-made : goal.both_ways-returns-in_err-both-in-Ok-Some-clause-made
+both_ways-returns-in_err-both-in-Ok-Some-clause-made t c = back_spent _ _ _ _ c.implication.ensures.made _ c.implication-2.ensures.made
+
+pub both_ways-returns-in_ok-both-in-Ok-Some-clause-made : goal.both_ways-returns-in_ok-both-in-Ok-Some-clause-made
+both_ways-returns-in_ok-both-in-Ok-Some-clause-made t c = back_spent _ _ _ _ c.implication.ensures.made _ c.implication-2.ensures.made
+
+pub elaborate_form-returns-else-is_empty-clause-made : goal.elaborate_form-returns-else-is_empty-clause-made
+elaborate_form-returns-else-is_empty-clause-made t c = quantified_spent _ _ _ _ _ _ c.in-Quantified.is (subst (λ (z : FormSyntax). Spends c.args.bank.now c.quantified.new.bank (form_cost z)) c.get-in-Quantified.ensures c.quantified.ensures.made)

@@ -1,9 +1,11 @@
-use Rattle.std.proofs.Common.{◌≡◌, ◌+◌, ◌*◌, All, length, map, sum, drop}
+use Rattle.std.proofs.Common.{◌≡◌, ◌+◌, ◌*◌, All, length, map, sum, drop, take}
 use Rattle.syn_term.specs.Bank.{Extends}
 use Rattle.syn_form.specs.Elaboration.{elaborate_form, in_turn}
 use Rattle.syn_form.specs.Quantified.{bare_qform}
 use Rattle.syn_expr.specs.Belonging.{QFormBelongs}
-use Rattle.syn_expr.specs.Places.{spoken_at}
+use Rattle.syn_expr.specs.Limits.{form_cost}
+use Rattle.syn_expr.specs.inner.Places.{spoken_at}
+use Rattle.syn_expr.specs.inner.Spending.{Spends}
 use Rattle.syn_expr.proofs.FormMaking.{read_rest}
 use Rattle.syn_expr.proofs.Weights.{weight}
 use Rattle.syn_expr.proofs.elaborate_form.+forms.Given as goal
@@ -26,4 +28,4 @@ decreases-quantified l = 4 * weight l.a.now + (length l.binders.now + 1)
 
 -- what was read stands before what is read of the rest
 abbrev pub invariant-elaborate_forms-loop-syntax : goal.invariant-elaborate_forms-loop-syntax
-invariant-elaborate_forms-loop-syntax l = (in_turn (map elaborate_form l.all) (spoken_at l.place) l.next ≡ read_rest (spoken_at l.place) (drop l.syntax-index l.all) (map bare_qform l.parts) l.after) × All (QFormBelongs l.bank) l.parts × Extends l.fn.bank l.bank
+invariant-elaborate_forms-loop-syntax l = (in_turn (map elaborate_form l.all) (spoken_at l.place) l.next ≡ read_rest (spoken_at l.place) (drop l.syntax-index l.all) (map bare_qform l.parts) l.after) × All (QFormBelongs l.bank) l.parts × Extends l.fn.bank l.bank × Spends l.fn.bank l.bank (sum (map form_cost (take l.syntax-index l.all)))

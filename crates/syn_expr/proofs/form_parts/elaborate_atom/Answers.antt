@@ -1,7 +1,7 @@
 use Rattle.std.proofs.Common.{ap, ◌∙◌}
 use Rattle.std.proofs.lemmas.Result.{IfOk-weaker}
 use Rattle.syn_form.specs.Elaboration.{symbol_named}
-use Rattle.syn_expr.specs.Places.{spoken_at}
+use Rattle.syn_expr.specs.inner.Places.{spoken_at}
 use Rattle.syn_expr.proofs.FormMaking.{atom_made, not_empty}
 use Rattle.syn_expr.proofs.form_parts.elaborate_atom.Goals as goal
 

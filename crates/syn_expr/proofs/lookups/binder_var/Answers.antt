@@ -1,7 +1,7 @@
 use Rattle.std.proofs.Common.{ap, sym}
 use Rattle.std.specs.Option.{option_map}
 use Rattle.syn_form.specs.Elaboration.{numbered_var}
-use Rattle.syn_expr.specs.Places.{spoken_at}
+use Rattle.syn_expr.specs.inner.Places.{spoken_at}
 use Rattle.syn_expr.proofs.FormMaking.{binder_found}
 use Rattle.syn_expr.proofs.lookups.binder_var.Goals as goal
 

@@ -1,6 +1,6 @@
 use Rattle.std.proofs.Common.{◌≡◌, ◌++◌, map, take, string_bytes}
 use Rattle.syn_form.specs.Printing.{joined}
-use Rattle.syn_expr.specs.Places.{spoken_at}
+use Rattle.syn_expr.specs.inner.Places.{spoken_at}
 use Rattle.syn_expr.proofs.FormTexts.{inner_text}
 use Rattle.syn_expr.proofs.print_forms.+forms.Given as goal
 

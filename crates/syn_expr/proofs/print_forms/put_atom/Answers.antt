@@ -1,6 +1,6 @@
 use Rattle.std.proofs.lemmas.Result.{IfOk-weaker}
 use Rattle.syn_term.specs.Symbols.{symbol_at}
-use Rattle.syn_expr.specs.Places.{spoken_at}
+use Rattle.syn_expr.specs.inner.Places.{spoken_at}
 use Rattle.syn_expr.proofs.TermTexts.{atom_put}
 use Rattle.syn_expr.proofs.print_forms.put_atom.Goals as goal
 

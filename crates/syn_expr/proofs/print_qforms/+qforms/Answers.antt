@@ -1,7 +1,7 @@
 -- What was put piece by piece is the text of the formula that was matched.
 use Rattle.std.proofs.Common.{◌∙◌}
 use Rattle.std.proofs.lemmas.Result.{IfOk-weaker}
-use Rattle.syn_expr.specs.Places.{spoken_at}
+use Rattle.syn_expr.specs.inner.Places.{spoken_at}
 use Rattle.syn_expr.proofs.Pieces.{item_put, whole_put, two_put, three_put}
 use Rattle.syn_expr.proofs.QFormTexts.{inner_qtext, and_text, or_text, implies_text, all_text, some_text}
 use Rattle.syn_expr.proofs.print_qforms.+qforms.Goals as goal

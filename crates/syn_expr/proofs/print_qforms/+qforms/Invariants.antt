@@ -1,6 +1,6 @@
 use Rattle.std.proofs.Common.{◌≡◌, ◌++◌, map, take, string_bytes}
 use Rattle.syn_form.specs.Printing.{joined}
-use Rattle.syn_expr.specs.Places.{spoken_at}
+use Rattle.syn_expr.specs.inner.Places.{spoken_at}
 use Rattle.syn_expr.proofs.QFormTexts.{inner_qtext}
 use Rattle.syn_expr.proofs.print_qforms.+qforms.Given as goal
 

@@ -1,6 +1,6 @@
 use Rattle.std.proofs.Common.{sym, ◌∙◌}
 use Rattle.std.proofs.lemmas.Result.{IfOk-weaker}
-use Rattle.syn_expr.specs.Places.{spoken_at}
+use Rattle.syn_expr.specs.inner.Places.{spoken_at}
 use Rattle.syn_form.specs.Printing.{printed_term}
 use Rattle.syn_expr.proofs.Pieces.{item_put}
 use Rattle.syn_expr.proofs.TermTexts.{application_put}

@@ -1,6 +1,6 @@
 use Rattle.std.proofs.Common.{◌≡◌, ◌++◌, ◌+◌, ◌*◌, codes, map, take, string_bytes}
 use Rattle.syn_form.specs.Printing.{joined, printed_term}
-use Rattle.syn_expr.specs.Places.{spoken_at}
+use Rattle.syn_expr.specs.inner.Places.{spoken_at}
 use Rattle.syn_expr.proofs.print_terms.+terms.Given as goal
 
 -- the arguments so far stand there, with a comma and a space between

@@ -1,17 +1,20 @@
 use Rattle.std.proofs.Common.{arith, subst}
-use Rattle.syn_term.specs.Terms.{bare}
 use Rattle.syn_form.specs.Texts.{expression_limit}
-use Rattle.syn_expr.specs.Accepting.{Taken, TakesTerm}
+use Rattle.syn_term.specs.Terms.{bare}
+use Rattle.syn_parse.specs.Parsing.{IsTermSyntaxOf, Parses}
 use Rattle.syn_expr.specs.Scopes.{spoken}
 use Rattle.syn_expr.proofs.Readers.{term_reader}
-use Rattle.syn_expr.proofs.Stands.{read, unread, untaken}
+use Rattle.syn_expr.proofs.Stands.{answered, answered_belongs, unread}
 use Rattle.syn_expr.proofs.read.term_of.Goals as goal
 
-pub returns-in_default-clause-answer : goal.returns-in_default-clause-answer
-returns-in_default-clause-answer c = unread (term_reader expression_limit (omega arith) (spoken c.args.scope.now) c.args.text.now) _ c.in_default.is c.in_ok-syntax.ensures.answer
-
 pub returns-in-None-clause-answer : goal.returns-in-None-clause-answer
-returns-in-None-clause-answer c = untaken (term_reader expression_limit (omega arith) (spoken c.args.scope.now) c.args.text.now) _ _ c.in-Some.is c.in_ok-syntax.ensures.answer (subst (Taken bare (TakesTerm expression_limit (spoken c.args.scope.now) c.in-Some.syntax)) c.in-None.is c.in_ok-taken_term.ensures.tree)
+returns-in-None-clause-answer c = unread (term_reader expression_limit (omega arith) (spoken c.args.scope.now) c.args.text.now) _ c.in-None.is c.in_ok-parse_term.ensures.answer
 
-pub returns-clause-answer : goal.returns-clause-answer
-returns-clause-answer c = read (term_reader expression_limit (omega arith) (spoken c.args.scope.now) c.args.text.now) _ _ c.in-Some.is c.in_ok-syntax.ensures.answer _ (subst (Taken bare (TakesTerm expression_limit (spoken c.args.scope.now) c.in-Some.syntax)) c.in-Some-2.is c.in_ok-taken_term.ensures.tree)
+pub returns-in-Some-clause-answer : goal.returns-in-Some-clause-answer
+returns-in-Some-clause-answer c = answered (term_reader expression_limit (omega arith) (spoken c.args.scope.now) c.args.text.now) bare _ _ c.in-Some.is c.in_ok-parse_term.ensures.answer _ c.taken_term-taken.ensures.tree _ c.answer.ensures
+
+pub returns-in-Some-clause-past : goal.returns-in-Some-clause-past
+returns-in-Some-clause-past c = λ past. c.taken_term-taken.ensures.past (past _ (subst (Parses (IsTermSyntaxOf c.args.text.now)) c.in-Some.is c.in_ok-parse_term.ensures.answer))
+
+pub returns-in-Some-clause-belongs : goal.returns-in-Some-clause-belongs
+returns-in-Some-clause-belongs c = answered_belongs _ _ c.taken_term-taken.ensures.belongs _ c.answer.ensures

@@ -1,4 +1,4 @@
--- Syntax trees that may stand for trees, by their words alone.
+-- For proofs: syntax trees that may stand for trees, by their words alone.
 use Rattle.std.specs.Prelude.{ℕ, Bool, true, false, not, ◌&&◌, ◌||◌, List, [], ◌∷◌, codes, map, nat_lt}
 use Rattle.std.specs.Str.{bytes_eq}
 use Rattle.syn_term.specs.Tokens.{is_reserved}

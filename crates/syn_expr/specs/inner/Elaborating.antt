@@ -1,4 +1,4 @@
--- Steps of the making of trees from syntax trees.
+-- For private contracts: steps of the making of trees from syntax trees.
 use Rattle.std.specs.Prelude.{ℕ, List, [], ◌∷◌, Option, None, codes, map, if◌then◌else◌}
 use Rattle.std.specs.Option.{option_and_then, option_map}
 use Rattle.syn_term.specs.Symbols.{SymbolTable}

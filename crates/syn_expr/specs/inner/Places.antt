@@ -1,25 +1,21 @@
--- What a text may speak of at a place inside it, and the pieces that printers put.
-use Rattle.std.specs.Prelude.{ℕ, ◌+◌, List, [], ◌∷◌, ◌++◌, Option, None, Some, String, codes, map, string_bytes, if◌then◌else◌, nat_lt}
-use Rattle.syn_term.specs.declared.sorts.Var.{Var}
+-- For private contracts: what a text may speak of at a place inside it, and what printers put.
+use Rattle.std.specs.Prelude.{ℕ, ◌+◌, List, [], ◌∷◌, ◌++◌, Option, None, Some, codes, map, if◌then◌else◌, nat_lt}
 use Rattle.syn_term.specs.Terms.{TermTree}
 use Rattle.syn_form.specs.Scopes.{Named, TextScope}
 use Rattle.syn_form.specs.declared.trees.Binder.{Binder}
 use Rattle.syn_form.specs.Printing.{joined, printed_term, sort_text}
+use Rattle.syn_expr.specs.Scopes.{listed}
 use Rattle.syn_expr.specs.declared.names.Inside.{Inside}
-use Rattle.syn_expr.specs.declared.names.Names.{Names, fold-Names}
-use Rattle.syn_expr.specs.declared.names.Names.TheOpen.{Names-F}
+use Rattle.syn_expr.specs.declared.names.NamedVars.{NamedVars, fold-NamedVars}
+use Rattle.syn_expr.specs.declared.names.NamedVars.TheOpen.{NamedVars-F}
 
--- names with their variables, as a scope has them
-abbrev pub given : {Z : Type 0} → List (String Z × Var) → List Named
-given = map (λ e. record { text = string_bytes e.0; var = e.1 })
-
-abbrev pub names_step : Names-F (List Named) → List Named
-names_step (Names-F.Given names) = given names.now
-names_step (Names-F.Bound b outer) = record { text = b.now.name; var = b.now.var } ∷ outer.now
+abbrev pub names_step : NamedVars-F (List Named) → List Named
+names_step (NamedVars-F.Given names) = listed names.now
+names_step (NamedVars-F.Bound b outer) = record { text = b.now.name; var = b.now.var } ∷ outer.now
 
 -- the variables by their names: what a quantifier binds stands before what is outside of it
-abbrev pub names_at : Names → List Named
-names_at = fold-Names (List Named) names_step
+abbrev pub names_at : NamedVars → List Named
+names_at = fold-NamedVars (List Named) names_step
 
 -- what may be spoken of at the place
 abbrev pub spoken_at : Inside → TextScope

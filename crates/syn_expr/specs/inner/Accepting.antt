@@ -1,5 +1,6 @@
--- Which tree a syntax tree is taken for: what it stands for, where that is within the limits.
-use Rattle.std.specs.Prelude.{◌≡◌, ℕ, ◌≤◌, Option, None, Some}
+-- For private contracts: which tree a syntax tree is taken for, that is what it stands for, where that is within the limits.
+use Rattle.std.specs.Prelude.{◌≡◌, ℕ, ◌≤◌, List, Option, None, Some, Result, Ok, Err}
+use Rattle.syn_term.specs.declared.sorts.Var.{Var}
 use Rattle.syn_term.specs.Terms.{TermTree, nodes, depth_of}
 use Rattle.syn_form.specs.declared.syntax.TermSyntax.{TermSyntax}
 use Rattle.syn_form.specs.declared.syntax.FormSyntax.{FormSyntax}
@@ -7,6 +8,9 @@ use Rattle.syn_form.specs.declared.syntax.OutSyntax.{OutSyntax}
 use Rattle.syn_form.specs.Trees.{FormTree, QFormTree, OutTree, form_nodes, form_depth, out_nodes, out_depth, term_vars, form_vars, out_vars}
 use Rattle.syn_form.specs.Plain.{HasOneSortEach}
 use Rattle.syn_form.specs.Quantified.{qform_nodes, qform_depth, qform_vars}
+use Rattle.syn_term.specs.declared.memory.NoMemory.{NoMemory}
+use Rattle.syn_expr.specs.declared.error.ExprError.{ExprError}
+use Rattle.syn_expr.specs.declared.error.ExprError.TheVariants as error
 use Rattle.syn_form.specs.Scopes.{TextScope}
 use Rattle.syn_form.specs.Texts.{Limit}
 use Rattle.syn_form.specs.Elaboration.{elaborate_term, elaborate_form, elaborate_plain, elaborate_out}
@@ -47,3 +51,14 @@ pub record TakesOut (limit : Limit) (scope : TextScope) (syntax : OutSyntax) (o 
 abbrev pub Taken : {T : Type 0} → (T → T) → (T → Type 0) → Option T → Type 0
 Taken bare Takes None = (t : _) → Takes t → ⊥
 Taken bare Takes (Some t) = Takes (bare t)
+
+-- the tree where no number has two sorts in it, and none only where one has
+abbrev pub IfSorted : {T : Type 0} → (T → List Var) → T → Option T → Type 0
+IfSorted vars t None = HasOneSortEach (vars t) → ⊥
+IfSorted vars t (Some u) = (u ≡ t) × HasOneSortEach (vars t)
+
+-- what was taken, as a reader answers it
+abbrev pub answer_of : {T : Type 0} → Result (Option T) NoMemory → Result T ExprError
+answer_of (Ok (Some t)) = Ok t
+answer_of (Ok None) = Err error.Refused
+answer_of (Err e) = Err error.NoMemory

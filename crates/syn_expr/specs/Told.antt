@@ -1,0 +1,86 @@
+-- For public contracts: plain trees whose printed text reads back over any table, since their variables are told apart.
+use Rattle.std.specs.Prelude.{◌≡◌, ℕ, ◌≤◌, ◌<◌, ◌^◌, Bool, true, false, List, [], All, Contains, length, map}
+use Rattle.syn_term.specs.declared.sorts.Kind.{Kind}
+use Rattle.syn_term.specs.declared.sorts.Kind.TheVariants as kind
+use Rattle.syn_term.specs.declared.sorts.Sym.{Sym}
+use Rattle.syn_term.specs.declared.sorts.Var.{Var}
+use Rattle.syn_term.specs.Names.{IsName}
+use Rattle.syn_term.specs.Symbols.{SymbolTable, IsTaken, succ_symbol, zero_symbol}
+use Rattle.syn_term.specs.Terms.{TermTree, nodes, depth_of}
+use Rattle.syn_form.specs.Plain.{HasOneSortEach, IsPlainForm, IsPlainOut, IsSorted}
+use Rattle.syn_form.specs.PlainQuantified.{IsPlainQForm}
+use Rattle.syn_form.specs.Quantified.{free_vars, qform_depth, qform_nodes}
+use Rattle.syn_form.specs.Scopes.{Named, TextScope}
+use Rattle.syn_form.specs.Texts.{Limit}
+use Rattle.syn_form.specs.Trees.{FormTree, OutTree, QFormTree, form_depth, form_nodes, form_vars, out_depth, out_nodes, out_vars, term_vars}
+
+-- each name is one that nothing in the table has, and no two variables have one name or one number
+pub record TellsApart (table : SymbolTable) (names : List Named) : Type 0 where
+  pub free : All (λ n. IsName n.text × (IsTaken table n.text → ⊥)) names
+  pub texts : (m n : Named) → Contains names m → Contains names n → m.text ≡ n.text → m.var ≡ n.var
+  pub numbers : (m n : Named) → Contains names m → Contains names n → m.var.number ≡ n.var.number → m.text ≡ n.text
+
+-- in rows or in a file, a symbol of this kind has a text of its own: only `0` is zero and only `s` is the successor, a relation
+-- and an order have arguments, and a Skolem symbol is written in rows alone
+abbrev pub CanWrite : Bool → Kind → Sym → Type 0
+CanWrite rows kind.Zero sym = sym ≡ zero_symbol
+CanWrite rows kind.Succ sym = sym ≡ succ_symbol
+CanWrite rows kind.Rel sym = 1 ≤ length sym.args
+CanWrite rows kind.Order sym = 1 ≤ length sym.args
+CanWrite rows kind.Skolem sym = rows ≡ true
+CanWrite rows _ sym = Unit {0}
+
+-- each symbol of the table has a text of its own
+abbrev pub CanWriteAll : TextScope → Type 0
+CanWriteAll scope = All (λ sym. CanWrite scope.rows sym.kind sym) scope.table.syms
+
+-- in a file: each variable is one of the scope's, and their names tell them apart
+pub record AreToldInFile (scope : TextScope) (vars : List Var) : Type 0 where
+  pub names : TellsApart scope.table scope.names
+  pub named : All (Contains (map (λ n. n.var) scope.names)) vars
+
+-- in rows: there are no names, and each variable has a number from 1 of at most seven digits
+pub record AreToldInRows (scope : TextScope) (vars : List Var) : Type 0 where
+  pub nameless : scope.names ≡ []
+  pub numbers : All (λ v. (1 ≤ v.number) × (v.number < 10 ^ 7)) vars
+
+abbrev pub AreToldIn : Bool → TextScope → List Var → Type 0
+AreToldIn true = AreToldInRows
+AreToldIn false = AreToldInFile
+
+-- the variables are told from each other by what they print as
+abbrev pub AreTold : TextScope → List Var → Type 0
+AreTold scope = AreToldIn scope.rows scope
+
+-- plain trees within a limit whose variables are told apart
+pub record IsToldTerm (limit : Limit) (scope : TextScope) (t : TermTree) : Type 0 where
+  pub sorted : IsSorted scope.table t
+  pub sorts : HasOneSortEach (term_vars t)
+  pub written : CanWriteAll scope
+  pub told : AreTold scope (term_vars t)
+  pub few : nodes t ≤ limit.nodes
+  pub shallow : depth_of t ≤ limit.depth
+
+pub record IsToldForm (limit : Limit) (scope : TextScope) (f : FormTree) : Type 0 where
+  pub plain : IsPlainForm scope.table f
+  pub written : CanWriteAll scope
+  pub told : AreTold scope (form_vars f)
+  pub few : form_nodes f ≤ limit.nodes
+  pub shallow : form_depth f ≤ limit.depth
+
+pub record IsToldOut (limit : Limit) (scope : TextScope) (o : OutTree) : Type 0 where
+  pub plain : IsPlainOut scope.table o
+  pub written : CanWriteAll scope
+  pub told : AreTold scope (out_vars o)
+  pub few : out_nodes o ≤ limit.nodes
+  pub shallow : out_depth o ≤ limit.depth
+
+-- a plain formula within a limit that has no free variables, in a file without names
+pub record IsClosedQForm (limit : Limit) (scope : TextScope) (f : QFormTree) : Type 0 where
+  pub plain : IsPlainQForm scope.table f
+  pub file : scope.rows ≡ false
+  pub nameless : scope.names ≡ []
+  pub written : CanWriteAll scope
+  pub closed : free_vars f ≡ []
+  pub few : qform_nodes f ≤ limit.nodes
+  pub shallow : qform_depth f ≤ limit.depth

@@ -1,0 +1,6 @@
+-- Definitions for private contracts and for proofs.
+pub mod Accepting
+pub mod Elaborating
+pub mod Places
+pub mod Proper
+pub mod Spending
