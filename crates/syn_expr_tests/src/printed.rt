@@ -47,20 +47,12 @@ fn make_table(alloc: Global) -> Result<Table, Fail> {
     })
 }
 
-/// The scope of rows, and that of a file with the variable `n`.
+/// The scope of rows.
 fn in_rows(table: &Table) -> Scope<'_> {
     Scope {
         syms: &table.syms,
         names: &[],
         rows: true,
-    }
-}
-
-fn in_file<'a>(table: &'a Table, names: &'a [(String, Var)]) -> Scope<'a> {
-    Scope {
-        syms: &table.syms,
-        names,
-        rows: false,
     }
 }
 
@@ -184,10 +176,10 @@ fn bounded(alloc: Global, table: &Table) -> Result<QForm, Fail> {
     Ok(all(alloc, b, inner)?)
 }
 
-/// `all x: nat. x = n`, where n is variable 7
+/// `all x: nat. x = n`, where n is variable 0
 fn equal_all(alloc: Global) -> Result<QForm, NoMemory> {
     let x = variable(alloc, 1, NAT)?;
-    let n = variable(alloc, 7, NAT)?;
+    let n = variable(alloc, 0, NAT)?;
     let b = binder(alloc, 1, NAT, "x")?;
     all(alloc, b, QForm::Equal(x, n))
 }
@@ -214,14 +206,19 @@ fn form_text(alloc: Global, table: &Table, f: Form) -> Result<String, Fail> {
     Ok(print_form(alloc, &in_rows(table), &f)?)
 }
 
+/// The text of a formula in a file, where `n` is variable 0.
 fn qform_text(alloc: Global, table: &Table, f: QForm) -> Result<String, Fail> {
-    let n = String::from_str(alloc, "n")?;
     let var = Var {
-        number: 7,
+        number: 0,
         sort: NAT,
     };
-    let names = [(n, var)];
-    Ok(print_qform(alloc, &in_file(table, &names), &f)?)
+    let names = [(String::from_str(alloc, "n")?, var)];
+    let scope = Scope {
+        syms: &table.syms,
+        names: &names,
+        rows: false,
+    };
+    Ok(print_qform(alloc, &scope, &f)?)
 }
 
 fn out_text(alloc: Global, table: &Table, o: Out) -> Result<String, Fail> {

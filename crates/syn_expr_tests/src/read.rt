@@ -1,5 +1,8 @@
-// Texts that are read, each printed again, and texts that are refused.
-use crate::tables::added;
+// Texts that are read, each printed again, and texts that are refused: a table for files and one for
+// rows, and texts about the limits.
+ghost use Rattle.syn_expr.specs.Scopes.{LeavesNumbersToBinders, spoken};
+
+use crate::tables::{added, cut};
 use std::alloc::Global;
 use std::process::Abort;
 use std::test::Fail;
@@ -10,6 +13,92 @@ use syn_expr::{
 use syn_term::{Bank, Kind, Sort, Symbols, Var};
 
 const NAT: Sort = Sort::Nat;
+
+/// What is read in a file, where `n` is a variable: a kind, a text, and what the tree prints as;
+/// nothing where the text is refused.
+const IN_FILES: &str = "\
+term  dbl( n ) # twice => dbl(n)
+term cons(a, nil) => cons(a, nil)
+term s(s(n)) => s(s(n))
+term s(3) => 4
+term s(1000) => s(1000)
+term a = b =>
+term nat =>
+term s =>
+term dbl =>
+term dbl() =>
+term dbl(a, b) =>
+term le(a, b) =>
+term (a) =>
+term a b =>
+term a | b =>
+term  =>
+form le(1000, 1000) => le(1000, 1000)
+form not a = b => not a = b
+form not not true => not not true
+form true and false or true => (true and false) or true
+form true -> false or true and not false => true -> (false or (true and not false))
+form true and false and (true and true) => true and false and (true and true)
+form (true -> true) -> false => (true -> true) -> false
+form true <-> true -> false => (true -> (true -> false)) and ((true -> false) -> true)
+form le(a, b) -> a = b -> b = a => le(a, b) -> (a = b -> b = a)
+form a = b <-> true => (a = b -> true) and (true -> a = b)
+form le(1001, 1) =>
+form a = b = a =>
+form a = nil =>
+form le(a, nil) =>
+form ?1 = a =>
+form !gap.1(a) = a =>
+form true and =>
+form (true =>
+form true) =>
+form () =>
+form a =>
+form le =>
+form all =>
+form a = b <-> b = a <-> a = a =>
+out if a = 0 then b else if b = 0 then a else 0 => if a = 0 then b else if b = 0 then a else 0
+out a => a
+out if a = 0 then if b = 0 then a else b else 0 => if a = 0 then if b = 0 then a else b else 0
+out if not (a = 0 and b = 0) then a else b => if not (a = 0 and b = 0) then a else b
+out a = 0 =>
+out if a = 0 then a =>
+out if a = 0 then a else b else a =>
+out if (a = 0 then a else b =>
+out if then a else b =>
+out (a) =>
+out if a = 0 then b else nil =>
+out if all x: nat. x = x then b else a =>
+qform all x: nat, y: nat. x = y -> y = x => all x: nat. (all y: nat. (x = y -> y = x))
+qform (all x: nat. x = x) and (all x: nat. x = x) => (all x: nat. x = x) and (all x: nat. x = x)
+qform all x: list. x = nil => all x: list. x = nil
+qform all x: nat. some y: list. true <-> false => all x: nat. (some y: list. ((true -> false) and (false -> true)))
+qform le(a, b) and (all x: nat. x = a) => le(a, b) and (all x: nat. x = a)
+qform all x: nat. x = n => all x: nat. x = n
+qform all x: nat. (some x: nat. x = x) =>
+qform all a: nat. a = a =>
+qform all n: nat. n = n =>
+qform all list: nat. list = list =>
+qform all x: other. x = x =>
+qform all x: nat. y = x =>
+qform true and all x: nat. x = x =>
+qform not all x: nat. x = x =>
+qform true <-> all x: nat. x = x =>
+qform dbl(all x: nat. a) = a =>
+qform all x. x = x =>
+qform all x: nat, . x = x =>";
+
+/// What is read in rows.
+const IN_ROWS: &str = "\
+form !gap.1(?1) = ?2 => !gap.1(?1) = ?2
+form ?1:list = nil => ?1:list = nil
+form ?1 = dbl(?1) # a row => ?1 = dbl(?1)
+form ?1 = a and ?1:list = nil =>
+form true <-> true =>
+form n = a =>
+form ?0 = a =>
+form ?1 :list = nil =>
+form !gap.2(?1) = ?2 =>";
 
 /// A table with lists of numbers, a relation, a function, two inputs and a Skolem symbol.
 fn make_table(alloc: Global) -> Result<Symbols, Fail> {
@@ -25,380 +114,130 @@ fn make_table(alloc: Global) -> Result<Symbols, Fail> {
     Ok(syms)
 }
 
-/// What a text is read as, in a file with the variable `n` or in a row.
-#[derive(Clone, Copy)]
-enum Kinds {
-    Term,
-    Form,
-    QForm,
-    Out,
-    Body,
-}
-
-/// The term of the text as it is printed; nothing where it is refused.
-fn term_again(alloc: Global, scope: &Scope, text: &str) -> Result<String, Fail> {
-    match read_term(alloc, &mut Bank::new(alloc), scope, text) {
-        Ok(tree) => Ok(print_term(alloc, scope, &tree)?),
+/// The text of a tree that was read; nothing where the text was refused.
+fn text_of(read: Result<String, ExprError>, alloc: Global) -> Result<String, Fail> {
+    match read {
+        Ok(text) => Ok(text),
         Err(ExprError::Refused) => Ok(String::new(alloc)),
         Err(ExprError::NoMemory) => Err(Fail::new("no memory")),
     }
 }
 
-/// The form of the text as it is printed; nothing where it is refused.
-fn form_again(alloc: Global, scope: &Scope, text: &str) -> Result<String, Fail> {
-    match read_form(alloc, &mut Bank::new(alloc), scope, text) {
-        Ok(tree) => Ok(print_form(alloc, scope, &tree)?),
-        Err(ExprError::Refused) => Ok(String::new(alloc)),
-        Err(ExprError::NoMemory) => Err(Fail::new("no memory")),
-    }
+fn term_again(alloc: Global, scope: &Scope, text: &str) -> Result<String, ExprError> {
+    let tree = read_term(alloc, &mut Bank::new(alloc), scope, text)?;
+    Ok(print_term(alloc, scope, &tree)?)
 }
 
-/// The formula of the text as it is printed; nothing where it is refused.
-fn qform_again(alloc: Global, scope: &Scope, text: &str) -> Result<String, Fail> {
-    match read_qform(alloc, &mut Bank::new(alloc), scope, text) {
-        Ok(tree) => Ok(print_qform(alloc, scope, &tree)?),
-        Err(ExprError::Refused) => Ok(String::new(alloc)),
-        Err(ExprError::NoMemory) => Err(Fail::new("no memory")),
-    }
+fn form_again(alloc: Global, scope: &Scope, text: &str) -> Result<String, ExprError> {
+    let tree = read_form(alloc, &mut Bank::new(alloc), scope, text)?;
+    Ok(print_form(alloc, scope, &tree)?)
 }
 
-/// The out of the text as it is printed; nothing where it is refused.
-fn out_again(alloc: Global, scope: &Scope, text: &str) -> Result<String, Fail> {
-    match read_out(alloc, &mut Bank::new(alloc), scope, text) {
-        Ok(tree) => Ok(print_out(alloc, scope, &tree)?),
-        Err(ExprError::Refused) => Ok(String::new(alloc)),
-        Err(ExprError::NoMemory) => Err(Fail::new("no memory")),
-    }
+fn qform_again(alloc: Global, scope: &Scope, text: &str) -> Result<String, ExprError>
+    requires { LeavesNumbersToBinders (spoken scope.now) }
+{
+    let tree = read_qform(alloc, &mut Bank::new(alloc), scope, text)?;
+    Ok(print_qform(alloc, scope, &tree)?)
 }
 
-/// The body of the text as it is printed; nothing where it is refused.
-fn body_again(alloc: Global, scope: &Scope, text: &str) -> Result<String, Fail> {
-    match read_body(alloc, &mut Bank::new(alloc), scope, text) {
-        Ok(tree) => Ok(print_out(alloc, scope, &tree)?),
-        Err(ExprError::Refused) => Ok(String::new(alloc)),
-        Err(ExprError::NoMemory) => Err(Fail::new("no memory")),
-    }
+fn out_again(alloc: Global, scope: &Scope, text: &str) -> Result<String, ExprError> {
+    let tree = read_out(alloc, &mut Bank::new(alloc), scope, text)?;
+    Ok(print_out(alloc, scope, &tree)?)
 }
 
-fn read_again(alloc: Global, kind: Kinds, scope: &Scope, text: &str) -> Result<String, Fail> {
+fn body_again(alloc: Global, scope: &Scope, text: &str) -> Result<String, ExprError> {
+    let tree = read_body(alloc, &mut Bank::new(alloc), scope, text)?;
+    Ok(print_out(alloc, scope, &tree)?)
+}
+
+/// The text as it is printed again, by the word for its kind.
+fn again(alloc: Global, scope: &Scope, kind: &str, text: &str) -> Result<String, ExprError> {
     match kind {
-        Kinds::Term => term_again(alloc, scope, text),
-        Kinds::Form => form_again(alloc, scope, text),
-        Kinds::QForm => qform_again(alloc, scope, text),
-        Kinds::Out => out_again(alloc, scope, text),
-        Kinds::Body => body_again(alloc, scope, text),
+        "term" => term_again(alloc, scope, text),
+        "out" => out_again(alloc, scope, text),
+        "body" => body_again(alloc, scope, text),
+        _ => form_again(alloc, scope, text),
     }
 }
 
 /// In a file, where `n` is a variable.
-fn in_file(alloc: Global, syms: &Symbols, kind: Kinds, text: &str) -> Result<String, Fail> {
-    let n = String::from_str(alloc, "n")?;
+fn in_file(alloc: Global, syms: &Symbols, kind: &str, text: &str) -> Result<String, Fail> {
     let var = Var {
-        number: 900,
+        number: 0,
         sort: NAT,
     };
-    let names = [(n, var)];
+    let names = [(String::from_str(alloc, "n")?, var)];
     let scope = Scope {
         syms,
         names: &names,
         rows: false,
     };
-    read_again(alloc, kind, &scope, text)
+    if kind == "qform" {
+        text_of(qform_again(alloc, &scope, text), alloc)
+    } else {
+        text_of(again(alloc, &scope, kind, text), alloc)
+    }
 }
 
-fn in_row(alloc: Global, syms: &Symbols, kind: Kinds, text: &str) -> Result<String, Fail> {
+fn in_row(alloc: Global, syms: &Symbols, kind: &str, text: &str) -> Result<String, Fail> {
     let scope = Scope {
         syms,
         names: &[],
         rows: true,
     };
-    read_again(alloc, kind, &scope, text)
+    text_of(again(alloc, &scope, kind, text), alloc)
 }
 
-/// In a file or in a row.
-fn read_in(
-    alloc: Global,
-    syms: &Symbols,
-    kind: Kinds,
-    rows: bool,
-    text: &str,
-) -> Result<String, Fail> {
-    if rows {
-        in_row(alloc, syms, kind, text)
-    } else {
-        in_file(alloc, syms, kind, text)
-    }
-}
-
-/// Each text is read, and printed as the one beside it.
-fn reads<R: Abort>(
-    rt: &R,
-    alloc: Global,
-    kind: Kinds,
-    rows: bool,
-    table: &[(&str, &str)],
-) -> Result<(), Fail> {
+/// Each text of the table is printed as the one beside it, or refused where there is none.
+fn walk<R: Abort>(rt: &R, alloc: Global, rows: bool, table: &str) -> Result<(), Fail> {
     let syms = make_table(alloc)?;
-    for i in 0..table.len() {
-        let (text, want) = table[i];
-        let got = read_in(alloc, &syms, kind, rows, text)?;
-        assert_eq!(rt; got.as_str(), want, "at {text}");
+    for line in table.lines() {
+        let (case, want) = cut(line, " =>");
+        let (kind, text) = cut(case, " ");
+        let got = if rows {
+            in_row(alloc, &syms, kind, text)?
+        } else {
+            in_file(alloc, &syms, kind, text)?
+        };
+        assert_eq!(rt; got.as_str(), want.trim_ascii(), "at {text}");
     }
     Ok(())
 }
 
-/// Each text is refused.
-fn refuses<R: Abort>(
-    rt: &R,
-    alloc: Global,
-    kind: Kinds,
-    rows: bool,
-    texts: &[&str],
-) -> Result<(), Fail> {
-    let syms = make_table(alloc)?;
-    for i in 0..texts.len() {
-        let got = read_in(alloc, &syms, kind, rows, texts[i])?;
-        assert!(rt; got.is_empty(), "at {}", texts[i]);
-    }
-    Ok(())
+#[test]
+fn reads_in_files(rt: HostRuntime) -> Result<(), Fail> {
+    walk(&rt, rt.alloc(), false, IN_FILES)
+}
+
+#[test]
+fn reads_in_rows(rt: HostRuntime) -> Result<(), Fail> {
+    walk(&rt, rt.alloc(), true, IN_ROWS)
 }
 
 /// Whether the text is read in a file.
-fn is_read(alloc: Global, kind: Kinds, text: &str) -> Result<bool, Fail> {
+fn is_read(alloc: Global, kind: &str, text: &str) -> Result<bool, Fail> {
     let syms = make_table(alloc)?;
     let got = in_file(alloc, &syms, kind, text)?;
     Ok(!got.is_empty())
 }
 
+/// A line feed stands nowhere in an expression, in a comment and behind one neither.
 #[test]
-fn reads_terms(rt: HostRuntime) -> Result<(), Fail> {
-    reads(
-        &rt,
-        rt.alloc(),
-        Kinds::Term,
-        false,
-        &[
-            (" dbl( n ) # twice", "dbl(n)"),
-            ("cons(a, nil)", "cons(a, nil)"),
-            ("s(s(n))", "s(s(n))"),
-            ("s(3)", "4"),
-            ("s(1000)", "s(1000)"),
-        ],
-    )
+fn refuses_line_feeds(rt: HostRuntime) -> Result<(), Fail> {
+    let alloc = rt.alloc();
+    for text in [
+        "dbl(0) # x\n= b",
+        "dbl(0) = b\n",
+        "\ndbl(0) = b",
+        "dbl(\n0) = b",
+        "dbl(0) = b # x\n",
+    ] {
+        assert!(rt; !is_read(alloc, "form", text)?, "at {text}");
+    }
+    Ok(())
 }
 
-#[test]
-fn refuses_terms(rt: HostRuntime) -> Result<(), Fail> {
-    refuses(
-        &rt,
-        rt.alloc(),
-        Kinds::Term,
-        false,
-        &[
-            "a = b",
-            "nat",
-            "s",
-            "dbl",
-            "dbl()",
-            "dbl(a, b)",
-            "le(a, b)",
-            "(a)",
-            "a b",
-            "a | b",
-            "",
-        ],
-    )
-}
-
-#[test]
-fn reads_forms(rt: HostRuntime) -> Result<(), Fail> {
-    reads(
-        &rt,
-        rt.alloc(),
-        Kinds::Form,
-        false,
-        &[
-            ("le(1000, 1000)", "le(1000, 1000)"),
-            ("not a = b", "not a = b"),
-            ("not not true", "not not true"),
-            ("true and false or true", "(true and false) or true"),
-            (
-                "true -> false or true and not false",
-                "true -> (false or (true and not false))",
-            ),
-            (
-                "true and false and (true and true)",
-                "true and false and (true and true)",
-            ),
-            ("(true -> true) -> false", "(true -> true) -> false"),
-            (
-                "true <-> true -> false",
-                "(true -> (true -> false)) and ((true -> false) -> true)",
-            ),
-            ("le(a, b) -> a = b -> b = a", "le(a, b) -> (a = b -> b = a)"),
-            ("a = b <-> true", "(a = b -> true) and (true -> a = b)"),
-        ],
-    )
-}
-
-#[test]
-fn refuses_forms(rt: HostRuntime) -> Result<(), Fail> {
-    refuses(
-        &rt,
-        rt.alloc(),
-        Kinds::Form,
-        false,
-        &[
-            "le(1001, 1)",
-            "a = b = a",
-            "a = nil",
-            "le(a, nil)",
-            "?1 = a",
-            "!gap.1(a) = a",
-            "true and",
-            "(true",
-            "true)",
-            "()",
-            "a",
-            "le",
-            "all",
-            "a = b <-> b = a <-> a = a",
-        ],
-    )
-}
-
-#[test]
-fn reads_outputs(rt: HostRuntime) -> Result<(), Fail> {
-    reads(
-        &rt,
-        rt.alloc(),
-        Kinds::Out,
-        false,
-        &[
-            (
-                "if a = 0 then b else if b = 0 then a else 0",
-                "if a = 0 then b else if b = 0 then a else 0",
-            ),
-            ("a", "a"),
-            (
-                "if a = 0 then if b = 0 then a else b else 0",
-                "if a = 0 then if b = 0 then a else b else 0",
-            ),
-            (
-                "if not (a = 0 and b = 0) then a else b",
-                "if not (a = 0 and b = 0) then a else b",
-            ),
-        ],
-    )
-}
-
-#[test]
-fn refuses_outputs(rt: HostRuntime) -> Result<(), Fail> {
-    refuses(
-        &rt,
-        rt.alloc(),
-        Kinds::Out,
-        false,
-        &[
-            "a = 0",
-            "if a = 0 then a",
-            "if a = 0 then a else b else a",
-            "if (a = 0 then a else b",
-            "if then a else b",
-            "(a)",
-            "if a = 0 then b else nil",
-            "if all x: nat. x = x then b else a",
-        ],
-    )
-}
-
-#[test]
-fn reads_quantifiers(rt: HostRuntime) -> Result<(), Fail> {
-    reads(
-        &rt,
-        rt.alloc(),
-        Kinds::QForm,
-        false,
-        &[
-            (
-                "all x: nat, y: nat. x = y -> y = x",
-                "all x: nat. (all y: nat. (x = y -> y = x))",
-            ),
-            (
-                "(all x: nat. x = x) and (all x: nat. x = x)",
-                "(all x: nat. x = x) and (all x: nat. x = x)",
-            ),
-            ("all x: list. x = nil", "all x: list. x = nil"),
-            (
-                "all x: nat. some y: list. true <-> false",
-                "all x: nat. (some y: list. ((true -> false) and (false -> true)))",
-            ),
-            (
-                "le(a, b) and (all x: nat. x = a)",
-                "le(a, b) and (all x: nat. x = a)",
-            ),
-        ],
-    )
-}
-
-#[test]
-fn refuses_quantifiers(rt: HostRuntime) -> Result<(), Fail> {
-    refuses(
-        &rt,
-        rt.alloc(),
-        Kinds::QForm,
-        false,
-        &[
-            "all x: nat. (some x: nat. x = x)",
-            "all a: nat. a = a",
-            "all n: nat. n = n",
-            "all list: nat. list = list",
-            "all x: other. x = x",
-            "all x: nat. y = x",
-            "true and all x: nat. x = x",
-            "not all x: nat. x = x",
-            "true <-> all x: nat. x = x",
-            "dbl(all x: nat. a) = a",
-            "all x. x = x",
-            "all x: nat, . x = x",
-        ],
-    )
-}
-
-#[test]
-fn reads_in_rows(rt: HostRuntime) -> Result<(), Fail> {
-    reads(
-        &rt,
-        rt.alloc(),
-        Kinds::Form,
-        true,
-        &[
-            ("!gap.1(?1) = ?2", "!gap.1(?1) = ?2"),
-            ("?1:list = nil", "?1:list = nil"),
-            ("?1 = dbl(?1) # a row", "?1 = dbl(?1)"),
-        ],
-    )
-}
-
-#[test]
-fn refuses_in_rows(rt: HostRuntime) -> Result<(), Fail> {
-    refuses(
-        &rt,
-        rt.alloc(),
-        Kinds::Form,
-        true,
-        &[
-            "?1 = a and ?1:list = nil",
-            "true <-> true",
-            "n = a",
-            "?0 = a",
-            "?1 :list = nil",
-            "!gap.2(?1) = ?2",
-        ],
-    )
-}
-
-/// The words `before` and `after`, each so many times, round `true`.
+/// The text before, so many times, then `true`, then the text after, so many times.
 fn round(alloc: Global, before: &str, after: &str, times: u32) -> Result<String, Fail> {
     let mut text = String::new(alloc);
     for _ in 0..times {
@@ -409,30 +248,6 @@ fn round(alloc: Global, before: &str, after: &str, times: u32) -> Result<String,
         text.push_str(after)?;
     }
     Ok(text)
-}
-
-#[test]
-fn reads_up_to_the_limits(rt: HostRuntime) -> Result<(), Fail> {
-    let alloc = rt.alloc();
-    for (before, times, reads) in [
-        ("not ", 1_199, true),
-        ("not ", 1_200, false),
-        ("true and ", 4_094, true),
-        ("true and ", 4_095, false),
-    ] {
-        let text = round(alloc, before, "", times)?;
-        let got = is_read(alloc, Kinds::Form, text.as_str())?;
-        assert!(rt; reads == got, "at {times} times {before}");
-    }
-    Ok(())
-}
-
-#[test]
-fn reads_many_brackets(rt: HostRuntime) -> Result<(), Fail> {
-    let alloc = rt.alloc();
-    let text = round(alloc, "(", ")", 1_000_000)?;
-    assert!(rt; is_read(alloc, Kinds::Form, text.as_str())?);
-    Ok(())
 }
 
 /// A choice whose test is a chain with so many members after the first.
@@ -446,18 +261,48 @@ fn choice(alloc: Global, more: u32) -> Result<String, Fail> {
 }
 
 #[test]
-fn reads_larger_bodies(rt: HostRuntime) -> Result<(), Fail> {
+fn reads_up_to_the_limits(rt: HostRuntime) -> Result<(), Fail> {
     let alloc = rt.alloc();
+    for (before, after, times, reads) in [
+        ("not ", "", 1_199, true),
+        ("not ", "", 1_200, false),
+        ("true and ", "", 4_094, true),
+        ("true and ", "", 4_095, false),
+        ("(", ")", 1_000_000, true),
+    ] {
+        let text = round(alloc, before, after, times)?;
+        let got = is_read(alloc, "form", text.as_str())?;
+        assert!(rt; reads == got, "at {times} times {before}");
+    }
     for (kind, more, reads) in [
-        (Kinds::Out, 4_091, true),
-        (Kinds::Out, 4_092, false),
-        (Kinds::Body, 4_092, true),
-        (Kinds::Body, 262_139, true),
-        (Kinds::Body, 262_140, false),
+        ("out", 4_091, true),
+        ("out", 4_092, false),
+        ("body", 4_092, true),
+        ("body", 262_139, true),
+        ("body", 262_140, false),
     ] {
         let text = choice(alloc, more)?;
         let got = is_read(alloc, kind, text.as_str())?;
         assert!(rt; reads == got, "with {more} members more");
     }
+    Ok(())
+}
+
+/// Twice as many nodes for each level: past the limit the line is refused at once, and nothing is
+/// made.
+#[test]
+fn refuses_past_the_limit_at_once(rt: HostRuntime) -> Result<(), Fail> {
+    let alloc = rt.alloc();
+    let syms = make_table(alloc)?;
+    let scope = Scope {
+        syms: &syms,
+        names: &[],
+        rows: false,
+    };
+    let text = round(alloc, "(a = b <-> ", ")", 300)?;
+    let mut bank = Bank::new(alloc);
+    let read = read_form(alloc, &mut bank, &scope, text.as_str());
+    assert!(rt; matches!(read, Err(ExprError::Refused)));
+    assert_eq!(rt; bank.made(), 0);
     Ok(())
 }

@@ -1,4 +1,4 @@
-// Symbols put into the tables of samples.
+// Symbols put into the tables of samples, and lines of tables cut at a mark.
 use sqlite_items::Items;
 use std::alloc::Global;
 use std::test::Fail;
@@ -23,4 +23,9 @@ pub(crate) fn added(
         None => Err(Fail::new("no symbol")),
         Some(f) => Ok(f),
     }
+}
+
+/// The text before the mark and that after it.
+pub(crate) fn cut<'a>(text: &'a str, mark: &str) -> (&'a str, &'a str) {
+    text.split_once(mark).unwrap_or((text, ""))
 }

@@ -1,30 +1,16 @@
-// Declarations, their trees read from texts: those of a theory of numbers are taken, and others are
+// Declarations, each a line of a table: those of a theory of numbers are taken, and others are
 // refused behind them.
+use crate::tables::cut;
 use sqlite_items::Items;
 use std::alloc::Global;
 use std::process::Abort;
 use std::test::Fail;
 use syn_expr::{ExprError, Scope, read_form, read_out, read_qform, read_term};
-use syn_form::{Form, Mono, Out, QForm};
-use syn_term::{Bank, NoMemory, Sort, SymId, Term, Text, Var};
+use syn_form::{Binder, Form, Mono, Out, QForm};
+use syn_term::{Bank, NoMemory, Shared, Sort, SymId, Term, Text, Var, decimal_number};
 use syn_model::{Decl, DeclError, Theory};
 
 const NAT: Sort = Sort::Nat;
-
-/// A declaration over numbers alone. The variables of clauses and measures are `x` and `y`, in this
-/// order.
-#[derive(Clone, Copy)]
-enum Line {
-    Fun(&'static str, u32),
-    Rel(&'static str, u32),
-    Fixed(&'static str, &'static str),
-    FunClause(&'static [&'static str], &'static str),
-    RelClause(&'static [&'static str], &'static str),
-    Order(&'static str, u32, &'static str),
-    Axiom(&'static str, &'static str),
-    Up(&'static str, &'static str, &'static str, u32),
-    Down(&'static str, &'static str, &'static str, u32),
-}
 
 fn failed(error: ExprError) -> Fail {
     match error {
@@ -97,16 +83,22 @@ fn output(alloc: Global, theory: &Theory, text: &str) -> Result<Out, Fail> {
 }
 
 fn closed(alloc: Global, theory: &Theory, text: &str) -> Result<QForm, Fail> {
-    match read_qform(alloc, &mut Bank::new(alloc), &scope(theory, &[]), text) {
+    let scope = Scope {
+        syms: theory.symbols(),
+        names: &[],
+        rows: false,
+    };
+    match read_qform(alloc, &mut Bank::new(alloc), &scope, text) {
         Ok(f) => Ok(f),
         Err(error) => Err(failed(error)),
     }
 }
 
-fn terms(alloc: Global, theory: &Theory, texts: &[&str]) -> Result<Items<Term>, Fail> {
+/// The terms of a text, with `;` between.
+fn terms(alloc: Global, theory: &Theory, texts: &str) -> Result<Items<Term>, Fail> {
     let mut terms = Items::new(alloc);
-    for i in 0..texts.len() {
-        terms.push(term(alloc, theory, texts[i])?)?;
+    for text in texts.split(';') {
+        terms.push(term(alloc, theory, text)?)?;
     }
     Ok(terms)
 }
@@ -160,13 +152,13 @@ fn list(alloc: Global, name: &str, nil: &str) -> Result<Decl, NoMemory> {
     })
 }
 
-fn fun_clause(alloc: Global, theory: &Theory, args: &[&str], body: &str) -> Result<Decl, Fail> {
+fn fun_clause(alloc: Global, theory: &Theory, args: &str, body: &str) -> Result<Decl, Fail> {
     let args = terms(alloc, theory, args)?;
     let body = output(alloc, theory, body)?;
     Ok(Decl::FunClause { args, body })
 }
 
-fn rel_clause(alloc: Global, theory: &Theory, args: &[&str], body: &str) -> Result<Decl, Fail> {
+fn rel_clause(alloc: Global, theory: &Theory, args: &str, body: &str) -> Result<Decl, Fail> {
     let args = terms(alloc, theory, args)?;
     let body = form(alloc, theory, body)?;
     Ok(Decl::RelClause { args, body })
@@ -195,31 +187,58 @@ fn axiom(alloc: Global, theory: &Theory, name: &str, text: &str) -> Result<Decl,
     Ok(Decl::Axiom { name, form })
 }
 
-fn row(alloc: Global, name: &str, mono: Mono) -> Result<Decl, NoMemory> {
+/// The axiom `all x: S. true`, where S is the declared sort with this number, there or not.
+fn over(alloc: Global, name: &str, number: u32) -> Result<Decl, NoMemory> {
+    let var = Var {
+        number: 1,
+        sort: Sort::Named(number),
+    };
+    let binder = Binder {
+        var,
+        name: Text::from_str(alloc, "x")?,
+    };
+    Ok(Decl::Axiom {
+        name: Text::from_str(alloc, name)?,
+        form: QForm::All(binder, Shared::new(alloc, QForm::True)?),
+    })
+}
+
+/// A row by the words for its relation, its symbol and its place.
+fn row(alloc: Global, theory: &Theory, name: &str, up: bool, words: &str) -> Result<Decl, Fail> {
+    let (rel, others) = cut(words, " ");
+    let (sym, place) = cut(others, " ");
+    let mono = mono(theory, rel, up, sym, number(place))?;
     let name = Text::from_str(alloc, name)?;
     Ok(Decl::Monotone { name, mono })
 }
 
-fn decl(alloc: Global, theory: &Theory, line: Line) -> Result<Decl, Fail> {
-    match line {
-        Line::Fun(name, count) => Ok(fun(alloc, name, count)?),
-        Line::Rel(name, count) => Ok(rel(alloc, name, count)?),
-        Line::Fixed(name, nil) => Ok(list(alloc, name, nil)?),
-        Line::FunClause(args, body) => fun_clause(alloc, theory, args, body),
-        Line::RelClause(args, body) => rel_clause(alloc, theory, args, body),
-        Line::Order(name, count, measure) => order(alloc, theory, name, count, measure),
-        Line::Axiom(name, text) => axiom(alloc, theory, name, text),
-        Line::Up(name, rel, sym, place) => {
-            Ok(row(alloc, name, mono(theory, rel, true, sym, place)?)?)
-        }
-        Line::Down(name, rel, sym, place) => {
-            Ok(row(alloc, name, mono(theory, rel, false, sym, place)?)?)
-        }
+fn number(word: &str) -> u32 {
+    decimal_number(word).unwrap_or(0)
+}
+
+/// A declaration over numbers alone, by the words of a line and what stands behind the colon. The
+/// variables of clauses and measures are `x` and `y`, in this order.
+fn decl(alloc: Global, theory: &Theory, line: &str) -> Result<Decl, Fail> {
+    let (head, text) = cut(line, ": ");
+    let (kind, words) = cut(head, " ");
+    let (name, more) = cut(words, " ");
+    match kind {
+        "fun" => Ok(fun(alloc, name, number(more))?),
+        "rel" => Ok(rel(alloc, name, number(more))?),
+        "list" => Ok(list(alloc, name, more)?),
+        "over" => Ok(over(alloc, name, number(more))?),
+        "clause" => fun_clause(alloc, theory, words, text),
+        "case" => rel_clause(alloc, theory, words, text),
+        "order" => order(alloc, theory, name, number(more), text),
+        "axiom" => axiom(alloc, theory, name, text),
+        "up" => row(alloc, theory, name, true, more),
+        "down" => row(alloc, theory, name, false, more),
+        _ => Err(Fail::new("no kind")),
     }
 }
 
 /// Whether the theory took the declaration.
-fn is_taken(alloc: Global, theory: &mut Theory, line: Line) -> Result<bool, Fail> {
+fn is_taken(alloc: Global, theory: &mut Theory, line: &str) -> Result<bool, Fail> {
     let decl = decl(alloc, theory, line)?;
     match theory.declare(decl) {
         Ok(()) => Ok(true),
@@ -235,97 +254,89 @@ fn begun(alloc: Global) -> Result<Theory, Fail> {
     }
 }
 
-/// Declares the lines in order. Each answer is the one beside it.
+/// Declares the lines of a table in order. Each answer is the one behind the arrow.
 fn declares<R: Abort>(
     rt: &R,
     alloc: Global,
     theory: &mut Theory,
-    lines: &[(Line, bool)],
+    table: &str,
 ) -> Result<(), Fail> {
-    for i in 0..lines.len() {
-        let (line, want) = lines[i];
-        let got = is_taken(alloc, theory, line)?;
-        assert!(rt; got == want, "line {i}");
+    for line in table.lines() {
+        let (decl, want) = cut(line, " => ");
+        let got = is_taken(alloc, theory, decl)?;
+        assert!(rt; got == (want == "yes"), "at {line}");
     }
     Ok(())
 }
 
 /// Numbers with predecessor, doubling and their order.
-const BASICS: [(Line, bool); 13] = [
-    (Line::Fun("p", 1), true),
-    (Line::FunClause(&["0"], "0"), true),
-    (Line::FunClause(&["s(x)"], "x"), true),
-    (Line::Fun("dbl", 1), true),
-    (Line::FunClause(&["0"], "0"), true),
-    (Line::FunClause(&["s(x)"], "s(s(dbl(x)))"), true),
-    (Line::Rel("le", 2), true),
-    (Line::RelClause(&["x", "0"], "x = 0"), true),
-    (
-        Line::RelClause(&["x", "s(y)"], "x = s(y) or le(x, y)"),
-        true,
-    ),
-    (Line::Order("below", 1, "x"), true),
-    (Line::Axiom("refl", "all x: nat. le(x, x)"), true),
-    (Line::Axiom("gap", "not (all x: nat. le(x, 0))"), true),
-    (Line::Up("trans", "le", "le", 2), true),
-];
+const BASICS: &str = "\
+fun p 1 => yes
+clause 0: 0 => yes
+clause s(x): x => yes
+fun dbl 1 => yes
+clause 0: 0 => yes
+clause s(x): s(s(dbl(x))) => yes
+rel le 2 => yes
+case x; 0: x = 0 => yes
+case x; s(y): x = s(y) or le(x, y) => yes
+order below 1: x => yes
+axiom refl: all x: nat. le(x, x) => yes
+axiom gap: not (all x: nat. le(x, 0)) => yes
+up trans le le 2 => yes";
+
+/// What may not follow, and then what may.
+const OTHERS: &str = "\
+fun p 1 => no
+fun none 0 => no
+clause x: x => no
+axiom refl: true => no
+axiom le: true => no
+axiom bind: all gap: nat. le(gap, gap) => no
+axiom own: all own: nat. le(own, own) => no
+down again le le 2 => no
+up third le le 3 => no
+up none p le 1 => no
+order wide 5: x => no
+order over 1: y => no
+list L gap => no
+list L L => no
+over early 0 => no
+list L empty => yes
+over late 0 => yes
+over other 1 => no
+down first le le 1 => yes
+order both 2: s(y) => yes
+rel much 65 => no
+rel wide 64 => yes";
+
+/// Clauses in order, and out of it.
+const CLAUSES: &str = "\
+fun g 2 => yes
+rel r 1 => no
+clause x: x => no
+clause x; s(y): x => no
+clause x; 0: g(x, 0) => no
+clause x; 0: y => no
+clause x; 0: x => yes
+axiom early: true => no
+clause s(x); y: x => no
+clause x; s(y): g(x, s(y)) => no
+clause x; s(y): g(s(x), y) => yes
+clause x; y: x => no";
 
 #[test]
 fn declares_numbers(rt: HostRuntime) -> Result<(), Fail> {
     let mut theory = begun(rt.alloc())?;
-    declares(&rt, rt.alloc(), &mut theory, &BASICS)?;
+    declares(&rt, rt.alloc(), &mut theory, BASICS)?;
     assert!(rt; theory.is_whole());
-    Ok(())
+    declares(&rt, rt.alloc(), &mut theory, OTHERS)
 }
-
-/// What may not follow, and then what may.
-const OTHERS: [(Line, bool); 17] = [
-    (Line::Fun("p", 1), false),
-    (Line::Fun("none", 0), false),
-    (Line::FunClause(&["x"], "x"), false),
-    (Line::Axiom("refl", "true"), false),
-    (Line::Axiom("le", "true"), false),
-    (Line::Axiom("bind", "all gap: nat. le(gap, gap)"), false),
-    (Line::Axiom("own", "all own: nat. le(own, own)"), false),
-    (Line::Down("again", "le", "le", 2), false),
-    (Line::Up("third", "le", "le", 3), false),
-    (Line::Up("none", "p", "le", 1), false),
-    (Line::Order("wide", 5, "x"), false),
-    (Line::Order("over", 1, "y"), false),
-    (Line::Fixed("L", "gap"), false),
-    (Line::Fixed("L", "L"), false),
-    (Line::Fixed("L", "empty"), true),
-    (Line::Down("first", "le", "le", 1), true),
-    (Line::Order("both", 2, "s(y)"), true),
-];
-
-#[test]
-fn refuses_what_may_not_follow(rt: HostRuntime) -> Result<(), Fail> {
-    let mut theory = begun(rt.alloc())?;
-    declares(&rt, rt.alloc(), &mut theory, &BASICS)?;
-    declares(&rt, rt.alloc(), &mut theory, &OTHERS)
-}
-
-/// Clauses in order, and out of it.
-const CLAUSES: [(Line, bool); 12] = [
-    (Line::Fun("g", 2), true),
-    (Line::Rel("r", 1), false),
-    (Line::FunClause(&["x"], "x"), false),
-    (Line::FunClause(&["x", "s(y)"], "x"), false),
-    (Line::FunClause(&["x", "0"], "g(x, 0)"), false),
-    (Line::FunClause(&["x", "0"], "y"), false),
-    (Line::FunClause(&["x", "0"], "x"), true),
-    (Line::Axiom("early", "true"), false),
-    (Line::FunClause(&["s(x)", "y"], "x"), false),
-    (Line::FunClause(&["x", "s(y)"], "g(x, s(y))"), false),
-    (Line::FunClause(&["x", "s(y)"], "g(s(x), y)"), true),
-    (Line::FunClause(&["x", "y"], "x"), false),
-];
 
 #[test]
 fn takes_clauses_in_order(rt: HostRuntime) -> Result<(), Fail> {
     let mut theory = begun(rt.alloc())?;
-    declares(&rt, rt.alloc(), &mut theory, &CLAUSES)?;
+    declares(&rt, rt.alloc(), &mut theory, CLAUSES)?;
     assert!(rt; theory.is_whole());
     Ok(())
 }
