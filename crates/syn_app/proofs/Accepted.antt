@@ -15,64 +15,65 @@ use Rattle.syn_app.specs.Trees.{FormTree, OutTree, TheoryTree, SpecTree, Program
 use Rattle.syn_app.specs.Primitive.{IsPrimitiveProgram, IsPrimitiveTerm, primitive_step, primitive_symbol}
 use Rattle.syn_app.specs.Correctness.{IsCorrect}
 use Rattle.syn_app.specs.ProgramText.{printed_program}
-use Rattle.syn_app.specs.declared.readings.Base.{Base}
-use Rattle.syn_app.specs.declared.readings.Base.TheVariants as base
-use Rattle.syn_app.specs.declared.readings.Row.{Row}
-use Rattle.syn_app.specs.declared.readings.RowReading.{RowReading}
-use Rattle.syn_app.specs.declared.readings.TermReading.{TermReading}
-use Rattle.syn_app.specs.declared.readings.FormReading.{FormReading}
-use Rattle.syn_app.specs.declared.readings.FormReading.TheVariants as reading
-use Rattle.syn_app.specs.declared.readings.Entry.{Entry}
+use Rattle.syn_app.specs.declared.flat.Base.{Base}
+use Rattle.syn_app.specs.declared.flat.Base.TheVariants as base
+use Rattle.syn_app.specs.declared.flat.Row.{Row}
+use Rattle.syn_app.specs.declared.flat.FlatRow.{FlatRow}
+use Rattle.syn_app.specs.declared.flat.FlatTerm.{FlatTerm}
+use Rattle.syn_app.specs.declared.flat.FlatForm.{FlatForm}
+use Rattle.syn_app.specs.declared.flat.FlatForm.TheVariants as flat
+use Rattle.syn_app.specs.declared.flat.Entry.{Entry}
 use Rattle.syn_app.specs.declared.replay.CheckError.{CheckError}
 use Rattle.syn_app.specs.declared.replay.CheckError.TheVariants as error
 use Rattle.syn_app.specs.DerivationText.{entry_of, form_tree, row_tree}
 use Rattle.syn_app.specs.Limits.{FitsForm}
-use Rattle.syn_app.specs.Printing.{nat_program}
+use Rattle.syn_app.specs.inner.Printing.{nat_program}
 use Rattle.syn_app.specs.Rows.{bare_form, bare_row, simplified_row}
 use Rattle.syn_app.specs.Replay.{FollowsAt, IsUnfinished, closed_term, last_row, program_of_row, row_at, simplified_entry, simplified_rows}
-use Rattle.syn_app.specs.Shapes.{AreShaped, FirstUnshaped, HasShape, IsTarget, ShapedAt, StepGives, row_variable, solved_goal}
+use Rattle.syn_app.specs.inner.Shapes.{AreShaped, FirstUnshaped, HasShape, ShapedAt, StepGives, row_variable, solved_goal}
 use Rattle.syn_app.specs.ProgramTexts.{IsProgramText}
 use Rattle.syn_app.specs.SpecText.{AreProgramNames, IsCondition, ProgramNames, ensures_of, nat_declared, spec_of}
-use Rattle.syn_app.specs.Checks.{EndsOtherwise, EndsWith, FailsCheck, IsProven}
+use Rattle.syn_app.specs.Checks.{IsProven}
+use Rattle.syn_app.specs.inner.Checks.{EndsOtherwise, EndsWith, FailsCheck}
 use Rattle.syn_app.specs.Terms.{IsClosed, base_tree, input_id, succ_id, successors_of, term_size, term_tree, zero_id}
 use Rattle.syn_app.proofs.Closed.{closed_term-closed, depth_of-term_tree, bare-term_tree}
 use Rattle.syn_app.proofs.Correct.{solved_correct, solved_program}
 use Rattle.syn_app.proofs.Numbered.{shapes_before}
 use Rattle.syn_app.proofs.PrintedProgram.{printed_is_text}
 use Rattle.syn_app.proofs.Simplified.{bare_row-simplified}
-use Rattle.syn_app.proofs.Steps.{follows_from, follows_to}
+use Rattle.syn_app.proofs.Steps.{IsTarget, follows_from, follows_to}
 
 -- the program with this body
 abbrev nat_body : ProgramNames → TermTree → ProgramTree
 nat_body n body = record { name = n.program; inputs = nat_declared n.input ∷ []; result = sort.Nat; body = out.Give body }
 
 -- an output condition's term is one node less deep than the condition may be
-condition_short : (r : TermReading) → IsCondition r → term_size r ≤ 1199
+condition_short : (r : FlatTerm) → IsCondition r → term_size r ≤ 1199
 condition_short r condition =
     let d = depth_of-term_tree r in
     let fits : FitsForm (ensures_of r) = condition.fits in
     let deep : 1 + max (depth_of _) (depth_of (term_tree r)) ≤ 1200 = fits.1 in omega arith
 
 -- the condition's term is the target of its specification
-pub is_target : (name : List ℕ) (n : ProgramNames) (r : TermReading) (t : TermTree) → IsCondition r → t ≡ term_tree r → IsTarget t (spec_of name n r)
-is_target name n r t condition is = record { reading = r; closed = condition.closed; short = condition_short r condition; is = is; condition = refl }
+pub is_target : (name : List ℕ) (n : ProgramNames) (r : FlatTerm) (t : TermTree) → IsCondition r → t ≡ term_tree r → IsTarget t (spec_of name n r)
+is_target name n r t condition is = record { flat = r; closed = condition.closed; short = condition_short r condition; is = is; condition = refl }
 
 -- a row that was read has no places once it is simplified
-bare-form : (f : FormReading) → bare_form (form_tree f) ≡ form_tree f
-bare-form reading.True = refl
-bare-form (reading.Equal s u) = let a = bare-term_tree s in let b = bare-term_tree u in cc
+bare-form : (f : FlatForm) → bare_form (form_tree f) ≡ form_tree f
+bare-form flat.True = refl
+bare-form (flat.Equal s u) = let a = bare-term_tree s in let b = bare-term_tree u in cc
 
-bare-tree : (r : RowReading) → bare_row (row_tree r) ≡ row_tree r
+bare-tree : (r : FlatRow) → bare_row (row_tree r) ≡ row_tree r
 bare-tree r = let a = bare-form r.form in let b = bare-term_tree r.out in cc
 
-entry_bare : (rows : List RowReading) (i : ℕ) (e : Entry) → slice_get (map entry_of rows) i ≡ Some e → bare_row (simplified_row e.row) ≡ simplified_row e.row
+entry_bare : (rows : List FlatRow) (i : ℕ) (e : Entry) → slice_get (map entry_of rows) i ≡ Some e → bare_row (simplified_row e.row) ≡ simplified_row e.row
 entry_bare [] i e h = absurd (cc)
 entry_bare (r ∷ rs) zero e h =
     let same : entry_of r ≡ e = cc in
     subst (λ (z : Entry). bare_row (simplified_row z.row) ≡ simplified_row z.row) same (bare_row-simplified (row_tree r) ∙ ap simplified_row (bare-tree r))
 entry_bare (r ∷ rs) (suc i) e h = entry_bare rs i e h
 
-module _ (rows : List RowReading) (t : TermTree) (spec : SpecTree) (target : IsTarget t spec) where
+module _ (rows : List FlatRow) (t : TermTree) (spec : SpecTree) (target : IsTarget t spec) where
   shaped_follows : (i : ℕ) → AreShaped t (map entry_of rows) i → ShapedAt t (map entry_of rows) i → FollowsAt spec (map entry_of rows) i
   shaped_follows i before s = (
     s.0,
@@ -150,10 +151,10 @@ module _ (table : SymbolTable) (zero_is : primitive_symbol (symbol_at table zero
   base-primitive (base.Number n) h = successors-primitive n (application zero_id []) (primitive-by table zero_id [] true zero_is refl)
   base-primitive (base.RowVariable n) h = absurd h
 
-  closed-primitive : (r : TermReading) → IsClosed r.base → IsPrimitiveTerm table (term_tree r)
+  closed-primitive : (r : FlatTerm) → IsClosed r.base → IsPrimitiveTerm table (term_tree r)
   closed-primitive r h = successors-primitive r.successors (base_tree r.base) (base-primitive r.base h)
 
-module _ (theory : TheoryTree) (name : List ℕ) (n : ProgramNames) (r : TermReading) (condition : IsCondition r) (t : TermTree) (is : t ≡ term_tree r) (rows : List RowReading) (kept : List Row) (same : map bare_row kept ≡ simplified_rows (map entry_of rows)) (shaped : AreShaped t (map entry_of rows) (length rows)) where
+module _ (theory : TheoryTree) (name : List ℕ) (n : ProgramNames) (r : FlatTerm) (condition : IsCondition r) (t : TermTree) (is : t ≡ term_tree r) (rows : List FlatRow) (kept : List Row) (same : map bare_row kept ≡ simplified_rows (map entry_of rows)) (shaped : AreShaped t (map entry_of rows) (length rows)) where
   abbrev entries : List Entry
   entries = map entry_of rows
 

@@ -5,9 +5,9 @@ use Rattle.syn_term.specs.declared.term.Node.{Node, fold-Node}
 use Rattle.syn_term.specs.declared.term.Node.TheOpen.{Node-F}
 use Rattle.syn_term.specs.Terms.{TermTree, application, nowhere, bare, bare_step, nodes, nodes_step, depth_of, depth_step}
 use Rattle.syn_term.proofs.Trees.{fold-App, fold-Var}
-use Rattle.syn_app.specs.declared.readings.Base.{Base}
-use Rattle.syn_app.specs.declared.readings.Base.TheVariants as base
-use Rattle.syn_app.specs.declared.readings.TermReading.{TermReading}
+use Rattle.syn_app.specs.declared.flat.Base.{Base}
+use Rattle.syn_app.specs.declared.flat.Base.TheVariants as base
+use Rattle.syn_app.specs.declared.flat.FlatTerm.{FlatTerm}
 use Rattle.syn_app.specs.Terms.{successors_of, base_tree, term_tree, base_size, term_size, IsClosed, zero_id, succ_id, input_id}
 use Rattle.syn_app.specs.Rows.{Substitution, substituted, substituted_step, renamed, renamed_step, HasVariable, has_variable_step}
 use Rattle.syn_app.specs.Replay.{closed_term, closed_step}
@@ -29,16 +29,16 @@ base-kept step keeps base.Input h = leaf-kept step keeps input_id
 base-kept step keeps (base.Number n) h = successors-kept step keeps n (application zero_id []) ∙ ap (successors_of n) (leaf-kept step keeps zero_id)
 base-kept step keeps (base.RowVariable n) h = absurd h
 
-closed-kept : (step : Node-F Node → Node) → KeepsSymbols step → (r : TermReading) → IsClosed r.base → fold-Node Node step (term_tree r) ≡ term_tree r
+closed-kept : (step : Node-F Node → Node) → KeepsSymbols step → (r : FlatTerm) → IsClosed r.base → fold-Node Node step (term_tree r) ≡ term_tree r
 closed-kept step keeps r h = successors-kept step keeps r.successors (base_tree r.base) ∙ ap (successors_of r.successors) (base-kept step keeps r.base h)
 
-pub substituted-closed : (σ : Substitution) (r : TermReading) → IsClosed r.base → substituted σ (term_tree r) ≡ term_tree r
+pub substituted-closed : (σ : Substitution) (r : FlatTerm) → IsClosed r.base → substituted σ (term_tree r) ≡ term_tree r
 substituted-closed σ = closed-kept (substituted_step σ) (λ f args. refl)
 
-pub renamed-closed : (to : ℕ → ℕ) (r : TermReading) → IsClosed r.base → renamed to (term_tree r) ≡ term_tree r
+pub renamed-closed : (to : ℕ → ℕ) (r : FlatTerm) → IsClosed r.base → renamed to (term_tree r) ≡ term_tree r
 renamed-closed to = closed-kept (renamed_step to) (λ f args. refl)
 
-pub closed_term-closed : (r : TermReading) → IsClosed r.base → closed_term (term_tree r) ≡ term_tree r
+pub closed_term-closed : (r : FlatTerm) → IsClosed r.base → closed_term (term_tree r) ≡ term_tree r
 closed_term-closed = closed-kept closed_step (λ f args. refl)
 
 bare-base : (b : Base) → bare (base_tree b) ≡ base_tree b
@@ -46,8 +46,8 @@ bare-base base.Input = leaf-kept bare_step (λ f args. refl) input_id
 bare-base (base.Number n) = base-kept bare_step (λ f args. refl) (base.Number n) tt
 bare-base (base.RowVariable n) = fold-Var bare_step nowhere _
 
--- the tree of a reading has no places
-pub bare-term_tree : (r : TermReading) → bare (term_tree r) ≡ term_tree r
+-- the tree of a flat term has no places
+pub bare-term_tree : (r : FlatTerm) → bare (term_tree r) ≡ term_tree r
 bare-term_tree r = successors-kept bare_step (λ f args. refl) r.successors (base_tree r.base) ∙ ap (successors_of r.successors) (bare-base r.base)
 
 -- no variable occurs
@@ -60,7 +60,7 @@ base-has k base.Input h = fold-App (has_variable_step k) nowhere input_id []
 base-has k (base.Number n) h = successors-has k n (application zero_id []) (fold-App (has_variable_step k) nowhere zero_id [])
 base-has k (base.RowVariable n) h = absurd h
 
-pub closed-has : (k : ℕ) (r : TermReading) → IsClosed r.base → HasVariable k (term_tree r) → ⊥
+pub closed-has : (k : ℕ) (r : FlatTerm) → IsClosed r.base → HasVariable k (term_tree r) → ⊥
 closed-has k r h e = let f = successors-has k r.successors (base_tree r.base) (base-has k r.base h) in absurd (cc)
 
 -- as many nodes as it is deep
@@ -82,8 +82,8 @@ base-depth base.Input = fold-App depth_step nowhere input_id []
 base-depth (base.Number n) = let e = fold-App depth_step nowhere zero_id [] in successors-depth n (application zero_id []) ∙ ap (λ k. n + k) e
 base-depth (base.RowVariable n) = fold-Var depth_step nowhere _
 
-pub nodes-term_tree : (r : TermReading) → nodes (term_tree r) ≡ term_size r
+pub nodes-term_tree : (r : FlatTerm) → nodes (term_tree r) ≡ term_size r
 nodes-term_tree r = successors-nodes r.successors (base_tree r.base) ∙ ap (λ k. r.successors + k) (base-nodes r.base)
 
-pub depth_of-term_tree : (r : TermReading) → depth_of (term_tree r) ≡ term_size r
+pub depth_of-term_tree : (r : FlatTerm) → depth_of (term_tree r) ≡ term_size r
 depth_of-term_tree r = successors-depth r.successors (base_tree r.base) ∙ ap (λ k. r.successors + k) (base-depth r.base)

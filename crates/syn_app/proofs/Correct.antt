@@ -16,9 +16,9 @@ use Rattle.syn_app.specs.declared.trees.Out.TheVariants as out
 use Rattle.syn_app.specs.Trees.{TheoryTree, SpecTree, ProgramTree, input_symbol, program_symbols, spec_symbols}
 use Rattle.syn_app.specs.Evaluation.{Answer, Call, Environment, term_by, term_step, together, after, applied, call_at, inputs_read, program_meaning}
 use Rattle.syn_app.specs.Correctness.{IsCorrect, EndsWell, MeetsEnsures, with_output, spec_meaning}
-use Rattle.syn_app.specs.declared.readings.Base.{Base}
-use Rattle.syn_app.specs.declared.readings.Base.TheVariants as base
-use Rattle.syn_app.specs.declared.readings.TermReading.{TermReading}
+use Rattle.syn_app.specs.declared.flat.Base.{Base}
+use Rattle.syn_app.specs.declared.flat.Base.TheVariants as base
+use Rattle.syn_app.specs.declared.flat.FlatTerm.{FlatTerm}
 use Rattle.syn_app.specs.Terms.{successors_of, base_tree, term_tree, IsClosed, zero_id, succ_id, input_id}
 use Rattle.syn_app.specs.SpecText.{ProgramNames, spec_of, nat_declared, output_variable}
 
@@ -76,14 +76,14 @@ module _ (table : SymbolTable) (call : Call) (env : Environment) (a : ℕ) (serv
   base-by (base.RowVariable n) c = absurd c
 
   -- a closed term has its value
-  closed-by : (r : TermReading) → IsClosed r.base → term_by table call env (term_tree r) ≡ answer (r.successors + base_value a r.base) (r.successors + base_turns r.base)
+  closed-by : (r : FlatTerm) → IsClosed r.base → term_by table call env (term_tree r) ≡ answer (r.successors + base_value a r.base) (r.successors + base_turns r.base)
   closed-by r c = successors-by r.successors (base_value a r.base) (base_turns r.base) (base_tree r.base) (base-by r.base c)
 
 -- the program of a specification of this form whose body is the condition's term
-abbrev pub solved_program : ProgramNames → TermReading → ProgramTree
+abbrev pub solved_program : ProgramNames → FlatTerm → ProgramTree
 solved_program n r = record { name = n.program; inputs = nat_declared n.input ∷ []; result = sort.Nat; body = out.Give (term_tree r) }
 
-module _ (theory : TheoryTree) (name : List ℕ) (n : ProgramNames) (r : TermReading) (closed : IsClosed r.base) where
+module _ (theory : TheoryTree) (name : List ℕ) (n : ProgramNames) (r : FlatTerm) (closed : IsClosed r.base) where
   abbrev spec : SpecTree
   spec = spec_of name n r
 

@@ -1,21 +1,21 @@
--- From the ends of the stages to when the status comes.
+-- From how each part of a check ends to when the status comes.
 use Rattle.std.proofs.Common.{◌≡◌, ℕ, ◌≤◌, List, [], Option, None, Some, refl, sym, ◌∙◌, subst, arith, inl, inr}
 use Rattle.syn_outside.specs.Files.{File, Told}
 use Rattle.syn_outside.specs.Faults.{HasCause}
 use Rattle.syn_outside.specs.Texts.{Adds, AddsPrefix}
 use Rattle.syn_app.specs.Trees.{TheoryTree, SpecTree}
-use Rattle.syn_app.specs.declared.readings.Entry.{Entry}
-use Rattle.syn_app.specs.declared.spec_text.SpecReading.{SpecReading}
+use Rattle.syn_app.specs.declared.flat.Entry.{Entry}
+use Rattle.syn_app.specs.declared.spec_text.FlatSpec.{FlatSpec}
 use Rattle.syn_app.specs.declared.status.Status.{Status}
 use Rattle.syn_app.specs.declared.status.Status.TheVariants as status
 use Rattle.syn_app.specs.declared.status.Which.TheVariants as which
-use Rattle.syn_app.specs.Lines.{IsFirstBad}
+use Rattle.syn_lex.specs.TextLines.{IsFirstBad}
 use Rattle.syn_app.specs.SpecText.{ExtendsSpec, HasInput, IsSpecText, WholeSpec}
 use Rattle.syn_app.specs.DerivationText.{ExtendsDerivation, WholeDerivation}
 use Rattle.syn_app.specs.Replay.{IsFirstToFail, IsUnfinished}
-use Rattle.syn_app.specs.Checks.{reading_names, reading_spec}
+use Rattle.syn_app.specs.inner.Checks.{flat_names, flat_spec}
 use Rattle.syn_app.specs.Comes.{ComesFor, FileNames, GoodSpec, GoodTheory, IsLong, IsShort, OfTexts, ReadsSpec, Scene, Writing}
-use Rattle.syn_app.specs.Stages.{DerivationEnds, DerivationFails, IsLoaded, IsSpecRead, LoadFails, OfEntries, Prints, SpecFails, TheoryEnds}
+use Rattle.syn_app.specs.inner.Judging.{DerivationEnds, DerivationFails, IsLoaded, IsSpecRead, LoadFails, OfEntries, Prints, SpecFails, TheoryEnds}
 
 -- what holds of two files, and of three
 told_two : (P Q : List ℕ → Type 0) (T : List ℕ → List ℕ → Type 0) (files : Option (List File)) (x y : List ℕ) → ((a b : List ℕ) → P a → Q b → T a b) → Told P files x → Told Q files y → Told (λ a. Told (T a) files y) files x
@@ -36,10 +36,10 @@ wider before from now after files name le ge (inl rose) = inl (omega arith)
 wider before from now after files name le ge (inr absent) = inr absent
 
 -- the specification that was read is the file's
-spec_told : (files : Option (List File)) (name bytes : List ℕ) (spec : SpecReading) → IsLoaded files name bytes → IsSpecRead bytes spec → Told (λ b. ReadsSpec b (reading_spec spec)) files name
+spec_told : (files : Option (List File)) (name bytes : List ℕ) (spec : FlatSpec) → IsLoaded files name bytes → IsSpecRead bytes spec → Told (λ b. ReadsSpec b (flat_spec spec)) files name
 spec_told files name bytes spec l h =
-    told_with (λ b. (bytes ≡ b) × IsShort b) (λ b. ReadsSpec b (reading_spec spec)) files name
-    (λ b k. (k.1, subst (λ (z : List ℕ). IsSpecText z (reading_spec spec)) k.0 (record { name = spec.name.now; names = reading_names spec; term = spec.term; cut = h.cut; is_name = h.is_name; are_names = h.are_names; condition = h.condition; is = refl }))) l
+    told_with (λ b. (bytes ≡ b) × IsShort b) (λ b. ReadsSpec b (flat_spec spec)) files name
+    (λ b k. (k.1, subst (λ (z : List ℕ). IsSpecText z (flat_spec spec)) k.0 (record { name = spec.name.now; names = flat_names spec; term = spec.term; cut = h.cut; is_name = h.is_name; are_names = h.are_names; condition = h.condition; is = refl }))) l
 
 module _ (s : Scene) (n : FileNames) where
   -- the theory
@@ -95,18 +95,18 @@ module _ (s : Scene) (n : FileNames) where
     spec_text_comes bytes l same status.NotFinal h = absurd h
     spec_text_comes bytes l same status.WriteFault h = absurd h
 
-    module _ (spec : SpecReading) (spec_is : Told (λ b. ReadsSpec b (reading_spec spec)) s.files n.spec) where
+    module _ (spec : FlatSpec) (spec_is : Told (λ b. ReadsSpec b (flat_spec spec)) s.files n.spec) where
       -- what holds of the derivation's text holds of the three texts
-      of_texts : (P : TheoryTree → SpecTree → List Entry → Type 0) → Told (λ d. IsShort d × OfEntries spec (λ entries. (theory : TheoryTree) → P theory (reading_spec spec) entries) d) s.files n.deriv → Told (λ a. Told (λ b. Told (OfTexts P a b) s.files n.deriv) s.files n.spec) s.files n.theory
+      of_texts : (P : TheoryTree → SpecTree → List Entry → Type 0) → Told (λ d. IsShort d × OfEntries spec (λ entries. (theory : TheoryTree) → P theory (flat_spec spec) entries) d) s.files n.deriv → Told (λ a. Told (λ b. Told (OfTexts P a b) s.files n.deriv) s.files n.spec) s.files n.theory
       of_texts P h =
-          told_three GoodTheory (λ b. ReadsSpec b (reading_spec spec)) (λ d. IsShort d × OfEntries spec (λ entries. (theory : TheoryTree) → P theory (reading_spec spec) entries) d) (OfTexts P) s.files n.theory n.spec n.deriv
-          (λ a b d p q r. (p.0, (reading_spec spec, (spec.input.now, (r.1.0, (record { theory_text = p.1; spec_text = q; input_is = refl; short = r.0; derivation_text = r.1.1.0 }, r.1.1.1 p.0)))))) theory spec_is h
+          told_three GoodTheory (λ b. ReadsSpec b (flat_spec spec)) (λ d. IsShort d × OfEntries spec (λ entries. (theory : TheoryTree) → P theory (flat_spec spec) entries) d) (OfTexts P) s.files n.theory n.spec n.deriv
+          (λ a b d p q r. (p.0, (flat_spec spec, (spec.input.now, (r.1.0, (record { theory_text = p.1; spec_text = q; input_is = refl; short = r.0; derivation_text = r.1.1.0 }, r.1.1.1 p.0)))))) theory spec_is h
 
       -- what was put is told of the printed program
       of_print : (P : List ℕ → Type 0) → Told (λ d. IsShort d × ((text : List ℕ) × (Prints spec d text × P text))) s.files n.deriv → Told (λ a. Told (λ b. Told (OfTexts (Writing P) a b) s.files n.deriv) s.files n.spec) s.files n.theory
       of_print P h =
           of_texts (Writing P)
-          (told_with (λ d. IsShort d × ((text : List ℕ) × (Prints spec d text × P text))) (λ d. IsShort d × OfEntries spec (λ entries. (theory : TheoryTree) → Writing P theory (reading_spec spec) entries) d) s.files n.deriv
+          (told_with (λ d. IsShort d × ((text : List ℕ) × (Prints spec d text × P text))) (λ d. IsShort d × OfEntries spec (λ entries. (theory : TheoryTree) → Writing P theory (flat_spec spec) entries) d) s.files n.deriv
           (λ d k.
           let text = k.1.0 in
           let prints = k.1.1.0 in
@@ -114,17 +114,17 @@ module _ (s : Scene) (n : FileNames) where
 
       pub derivation_comes : (from : ℕ) → s.reads ≤ from → (e : Status) → DerivationEnds spec from s.reads_after s.files n.deriv s.text s.text_after s.faults s.faults_after e → ComesFor s n e
       derivation_comes from le (status.ReadFault which.Derivation) h = (
-        told_two GoodTheory (λ b. ReadsSpec b (reading_spec spec)) GoodSpec s.files n.theory n.spec (λ a b p q. (p, (reading_spec spec, q))) theory spec_is,
+        told_two GoodTheory (λ b. ReadsSpec b (flat_spec spec)) GoodSpec s.files n.theory n.spec (λ a b p q. (p, (flat_spec spec, q))) theory spec_is,
         wider s.reads from s.reads_after s.reads_after s.files n.deriv le (omega arith) h,
       )
       derivation_comes from le (status.TooLong which.Derivation) h =
-          told_three GoodTheory (λ b. ReadsSpec b (reading_spec spec)) IsLong (λ a b d. GoodSpec a b × IsLong d) s.files n.theory n.spec n.deriv (λ a b d p q r. ((p, (reading_spec spec, q)), r)) theory spec_is h
+          told_three GoodTheory (λ b. ReadsSpec b (flat_spec spec)) IsLong (λ a b d. GoodSpec a b × IsLong d) s.files n.theory n.spec n.deriv (λ a b d p q r. ((p, (flat_spec spec, q)), r)) theory spec_is h
       derivation_comes from le (status.BadDerivation k) h =
-          told_three GoodTheory (λ b. ReadsSpec b (reading_spec spec)) (λ d. IsShort d × IsFirstBad (ExtendsDerivation spec.input.now) WholeDerivation d k)
+          told_three GoodTheory (λ b. ReadsSpec b (flat_spec spec)) (λ d. IsShort d × IsFirstBad (ExtendsDerivation spec.input.now) WholeDerivation d k)
           (λ a b d. GoodTheory a × ((spec : SpecTree) × (ReadsSpec b spec × ((input : List ℕ) × (HasInput spec input × (IsShort d × IsFirstBad (ExtendsDerivation input) WholeDerivation d k)))))) s.files n.theory n.spec n.deriv
-          (λ a b d p q r. (p, (reading_spec spec, (q, (spec.input.now, (refl, r)))))) theory spec_is h
+          (λ a b d p q r. (p, (flat_spec spec, (q, (spec.input.now, (refl, r)))))) theory spec_is h
       derivation_comes from le (status.NotFollows k) h =
-          of_texts (λ theory spec entries. IsFirstToFail spec entries k) (told_with (λ d. IsShort d × DerivationFails spec d (status.NotFollows k)) (λ d. IsShort d × OfEntries spec (λ entries. (theory : TheoryTree) → IsFirstToFail (reading_spec spec) entries k) d) s.files n.deriv (λ d r. (r.0, (r.1.0, (r.1.1.0, (λ t. r.1.1.1))))) h)
+          of_texts (λ theory spec entries. IsFirstToFail spec entries k) (told_with (λ d. IsShort d × DerivationFails spec d (status.NotFollows k)) (λ d. IsShort d × OfEntries spec (λ entries. (theory : TheoryTree) → IsFirstToFail (flat_spec spec) entries k) d) s.files n.deriv (λ d r. (r.0, (r.1.0, (r.1.1.0, (λ t. r.1.1.1))))) h)
       derivation_comes from le status.NotFinal h = of_texts IsUnfinished h
       derivation_comes from le status.Done h = of_print (Adds s.text s.text_after) h
       derivation_comes from le status.WriteFault h = (of_print (AddsPrefix s.text s.text_after) h.0, h.1)
@@ -139,7 +139,7 @@ module _ (s : Scene) (n : FileNames) where
       derivation_comes from le (status.BadSpec k) h = absurd h
 
 -- all the way: the files stay, and the faults of reading only rise
-pub check_comes : (files first second : Option (List File)) (reads reads_first reads_second reads_after : ℕ) (text text_after : Option (List ℕ)) (faults faults_after : ℕ) (n : FileNames) (bytes items : List ℕ) (spec : SpecReading) (e : Status) → first ≡ files → second ≡ first → reads ≤ reads_first → reads_first ≤ reads_second → Told GoodTheory files n.theory → bytes ≡ items → IsLoaded first n.spec items → IsSpecRead bytes spec → DerivationEnds spec reads_second reads_after second n.deriv text text_after faults faults_after e → ComesFor (record { words = []; files = files; reads = reads; reads_after = reads_after; text = text; text_after = text_after; faults = faults; faults_after = faults_after }) n e
+pub check_comes : (files first second : Option (List File)) (reads reads_first reads_second reads_after : ℕ) (text text_after : Option (List ℕ)) (faults faults_after : ℕ) (n : FileNames) (bytes items : List ℕ) (spec : FlatSpec) (e : Status) → first ≡ files → second ≡ first → reads ≤ reads_first → reads_first ≤ reads_second → Told GoodTheory files n.theory → bytes ≡ items → IsLoaded first n.spec items → IsSpecRead bytes spec → DerivationEnds spec reads_second reads_after second n.deriv text text_after faults faults_after e → ComesFor (record { words = []; files = files; reads = reads; reads_after = reads_after; text = text; text_after = text_after; faults = faults; faults_after = faults_after }) n e
 check_comes files first second reads reads_first reads_second reads_after text text_after faults faults_after n bytes items spec e f g le more theory same loaded read ends =
     let s : Scene = record { words = []; files = files; reads = reads; reads_after = reads_after; text = text; text_after = text_after; faults = faults; faults_after = faults_after } in
     let l : IsLoaded files n.spec bytes = subst (λ (z : List ℕ). IsLoaded files n.spec z) (sym same) (subst (λ (z : Option (List File)). IsLoaded z n.spec items) f loaded) in

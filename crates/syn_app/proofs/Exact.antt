@@ -5,16 +5,16 @@ use Rattle.std.proofs.lemmas.Bool.{cases_lt}
 use Rattle.std.proofs.lemmas.List.{append_cancel_left}
 use Rattle.syn_term.specs.Names.{IsName}
 use Rattle.syn_app.specs.Trees.{SpecTree, TheoryTree}
-use Rattle.syn_app.specs.declared.readings.Entry.{Entry}
-use Rattle.syn_app.specs.declared.readings.RowReading.{RowReading}
-use Rattle.syn_app.specs.declared.readings.TermReading.{TermReading}
+use Rattle.syn_app.specs.declared.flat.Entry.{Entry}
+use Rattle.syn_app.specs.declared.flat.FlatRow.{FlatRow}
+use Rattle.syn_app.specs.declared.flat.FlatTerm.{FlatTerm}
 use Rattle.syn_app.specs.DerivationText.{AreRows, ExtendsDerivation, IsDerivationText, WholeDerivation, entry_of, first_line, row_line, row_lines}
-use Rattle.syn_app.specs.Lines.{ExtendsAt, IsFirstBad, IsText}
-use Rattle.syn_app.specs.Readers.{IsDerivationReading, IsSpecReading, row_text}
+use Rattle.syn_lex.specs.TextLines.{ExtendsAt, IsFirstBad, IsText}
+use Rattle.syn_app.specs.inner.Readers.{IsFlatDerivation, IsFlatSpec, row_text}
 use Rattle.syn_app.specs.SpecText.{ExtendsSpec, IsSpecText, ProgramNames, WholeSpec, ensures_line, program_line, spec_line, spec_of}
 use Rattle.syn_app.specs.Terms.{term_text}
 use Rattle.syn_app.specs.TheoryText.{ExtendsTheory, IsTheoryText, WholeTheory, theory_line}
-use Rattle.syn_app.proofs.Parts.{cut_once}
+use Rattle.syn_lex.proofs.OneCut.{cut_once}
 use Rattle.syn_app.proofs.RowTexts.{after_number_is, line_is, length_lines, row_once, row_parts, whole_extends}
 use Rattle.syn_app.proofs.SpecTexts.{program_once, three_lines}
 use Rattle.syn_app.proofs.TermTexts.{term_once}
@@ -52,7 +52,7 @@ one_line name named (suc i) lt = absurd (omega arith)
 pub theory_is_text : (bytes : List ℕ) (t : TheoryTree) → IsTheoryText bytes t → IsText ExtendsTheory WholeTheory bytes
 theory_is_text bytes t h = record { lines = theory_line t.name ∷ []; cut = h.cut; begins = one_line t.name h.name; whole = refl }
 
-pub spec_is_text : (bytes name : List ℕ) (n : ProgramNames) (t : TermReading) → IsSpecReading bytes name n t → IsText ExtendsSpec WholeSpec bytes
+pub spec_is_text : (bytes name : List ℕ) (n : ProgramNames) (t : FlatTerm) → IsFlatSpec bytes name n t → IsText ExtendsSpec WholeSpec bytes
 spec_is_text bytes name n t h = record {
   lines = spec_line name ∷ program_line n ∷ ensures_line n t ∷ [];
   cut = h.cut;
@@ -60,10 +60,10 @@ spec_is_text bytes name n t h = record {
   whole = refl;
 }
 
-lines_extend : (input : List ℕ) (rows : List RowReading) → AreRows rows → (i : ℕ) → i < length (first_line ∷ row_lines input 1 rows) → ExtendsAt (ExtendsDerivation input) (first_line ∷ row_lines input 1 rows) i
+lines_extend : (input : List ℕ) (rows : List FlatRow) → AreRows rows → (i : ℕ) → i < length (first_line ∷ row_lines input 1 rows) → ExtendsAt (ExtendsDerivation input) (first_line ∷ row_lines input 1 rows) i
 lines_extend input rows are i lt = let l = length_lines input 1 rows in whole_extends input rows are i (omega arith)
 
-pub derivation_is_text : (input bytes : List ℕ) (rows : List RowReading) → IsDerivationReading input bytes rows → IsText (ExtendsDerivation input) WholeDerivation bytes
+pub derivation_is_text : (input bytes : List ℕ) (rows : List FlatRow) → IsFlatDerivation input bytes rows → IsText (ExtendsDerivation input) WholeDerivation bytes
 derivation_is_text input bytes rows h = record {
   lines = first_line ∷ row_lines input 1 rows;
   cut = h.cut;
@@ -79,16 +79,16 @@ theory_once bytes a b ha hb =
     let e : theory_line a.name ≡ theory_line b.name = cc in
     ap (λ (n : List ℕ). record { name = n }) (append_cancel_left (theory_line []) a.name b.name e)
 
-same_spec : (x y : List ℕ) (n m : ProgramNames) (t u : TermReading) → x ≡ y → n ≡ m → t ≡ u → spec_of x n t ≡ spec_of y m u
-same_spec x y n m t u a b c = ap (λ (z : List ℕ). spec_of z n t) a ∙ (ap (λ (z : ProgramNames). spec_of y z t) b ∙ ap (λ (z : TermReading). spec_of y m z) c)
+same_spec : (x y : List ℕ) (n m : ProgramNames) (t u : FlatTerm) → x ≡ y → n ≡ m → t ≡ u → spec_of x n t ≡ spec_of y m u
+same_spec x y n m t u a b c = ap (λ (z : List ℕ). spec_of z n t) a ∙ (ap (λ (z : ProgramNames). spec_of y z t) b ∙ ap (λ (z : FlatTerm). spec_of y m z) c)
 
-condition_same : (n : ProgramNames) (t u : TermReading) → ensures_line n t ≡ ensures_line n u → term_text n.input t ≡ term_text n.input u
+condition_same : (n : ProgramNames) (t u : FlatTerm) → ensures_line n t ≡ ensures_line n u → term_text n.input t ≡ term_text n.input u
 condition_same n t u e =
     append_cancel_left (codes " = ") (term_text n.input t) (term_text n.input u)
     (append_cancel_left n.output (codes " = " ++ term_text n.input t) (codes " = " ++ term_text n.input u)
     (append_cancel_left (codes "ensures ") (n.output ++ (codes " = " ++ term_text n.input t)) (n.output ++ (codes " = " ++ term_text n.input u)) e))
 
-pub spec_once : (bytes x y : List ℕ) (n m : ProgramNames) (t u : TermReading) → IsSpecReading bytes x n t → IsSpecReading bytes y m u → (x ≡ y) × (n ≡ m) × (t ≡ u)
+pub spec_once : (bytes x y : List ℕ) (n m : ProgramNames) (t u : FlatTerm) → IsFlatSpec bytes x n t → IsFlatSpec bytes y m u → (x ≡ y) × (n ≡ m) × (t ≡ u)
 spec_once bytes x y n m t u h k =
     let c = cut_once bytes (spec_line x ∷ program_line n ∷ ensures_line n t ∷ []) (spec_line y ∷ program_line m ∷ ensures_line m u ∷ []) [] [] h.cut k.cut in
     let l : spec_line x ∷ program_line n ∷ ensures_line n t ∷ [] ≡ spec_line y ∷ program_line m ∷ ensures_line m u ∷ [] = c.0 in
@@ -102,16 +102,16 @@ spec_once bytes x y n m t u h k =
       term_once n.input t u h.are_names.input h.condition.base k.condition.base (condition_same n t u w),
     )
 
-pub spec_text_reading : (bytes : List ℕ) (s : SpecTree) (h : IsSpecText bytes s) → IsSpecReading bytes h.name h.names h.term
-spec_text_reading bytes s h = record { cut = h.cut; is_name = h.is_name; are_names = h.are_names; condition = h.condition }
+pub spec_text_flat : (bytes : List ℕ) (s : SpecTree) (h : IsSpecText bytes s) → IsFlatSpec bytes h.name h.names h.term
+spec_text_flat bytes s h = record { cut = h.cut; is_name = h.is_name; are_names = h.are_names; condition = h.condition }
 
 -- no text stands for two specifications
 pub spec_text_once : (bytes : List ℕ) (a b : SpecTree) → IsSpecText bytes a → IsSpecText bytes b → a ≡ b
 spec_text_once bytes a b h k =
-    let e = spec_once bytes h.name k.name h.names k.names h.term k.term (spec_text_reading bytes a h) (spec_text_reading bytes b k) in
+    let e = spec_once bytes h.name k.name h.names k.names h.term k.term (spec_text_flat bytes a h) (spec_text_flat bytes b k) in
     h.is ∙ (same_spec h.name k.name h.names k.names h.term k.term e.0 e.1 e.2 ∙ sym k.is)
 
-rows_same : (input : List ℕ) (n : ℕ) (rs qs : List RowReading) → IsName input → AreRows rs → AreRows qs → row_lines input n rs ≡ row_lines input n qs → rs ≡ qs
+rows_same : (input : List ℕ) (n : ℕ) (rs qs : List FlatRow) → IsName input → AreRows rs → AreRows qs → row_lines input n rs ≡ row_lines input n qs → rs ≡ qs
 rows_same input n [] [] named hr hq e = refl
 rows_same input n [] (q ∷ qs) named hr hq e = absurd (cc)
 rows_same input n (r ∷ rs) [] named hr hq e = absurd (cc)
@@ -122,16 +122,16 @@ rows_same input n (r ∷ rs) (q ∷ qs) named hr hq e =
     let k : rs ≡ qs = rows_same input (n + 1) rs qs named hr.1 hq.1 more in cc
 
 -- no text stands for two lists of rows
-pub derivation_once : (input bytes : List ℕ) (rs qs : List RowReading) → IsName input → IsDerivationReading input bytes rs → IsDerivationReading input bytes qs → rs ≡ qs
+pub derivation_once : (input bytes : List ℕ) (rs qs : List FlatRow) → IsName input → IsFlatDerivation input bytes rs → IsFlatDerivation input bytes qs → rs ≡ qs
 derivation_once input bytes rs qs named h k =
     let c = cut_once bytes (first_line ∷ row_lines input 1 rs) (first_line ∷ row_lines input 1 qs) [] [] h.cut k.cut in
     let l : first_line ∷ row_lines input 1 rs ≡ first_line ∷ row_lines input 1 qs = c.0 in
     rows_same input 1 rs qs named h.are_rows k.are_rows (append_cancel_left (first_line ∷ []) (row_lines input 1 rs) (row_lines input 1 qs) l)
 
-pub derivation_text_reading : (input bytes : List ℕ) (d : List Entry) (h : IsDerivationText input bytes d) → IsDerivationReading input bytes h.rows
-derivation_text_reading input bytes d h = record { cut = h.cut; are_rows = h.are_rows }
+pub derivation_text_flat : (input bytes : List ℕ) (d : List Entry) (h : IsDerivationText input bytes d) → IsFlatDerivation input bytes h.rows
+derivation_text_flat input bytes d h = record { cut = h.cut; are_rows = h.are_rows }
 
 -- nor for two derivations
 pub derivation_text_once : (input bytes : List ℕ) (a b : List Entry) → IsName input → IsDerivationText input bytes a → IsDerivationText input bytes b → a ≡ b
 derivation_text_once input bytes a b named h k =
-    h.is ∙ (ap (λ (rows : List RowReading). map entry_of rows) (derivation_once input bytes h.rows k.rows named (derivation_text_reading input bytes a h) (derivation_text_reading input bytes b k)) ∙ sym k.is)
+    h.is ∙ (ap (λ (rows : List FlatRow). map entry_of rows) (derivation_once input bytes h.rows k.rows named (derivation_text_flat input bytes a h) (derivation_text_flat input bytes b k)) ∙ sym k.is)

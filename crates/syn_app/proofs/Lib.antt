@@ -15,7 +15,7 @@ pub mod SpecTexts
 pub mod RowTexts
 pub mod Accepted
 pub mod Tables
-pub mod Staged
+pub mod Judged
 pub mod Ending
 pub mod Exact
 pub mod Unique

@@ -2,13 +2,13 @@
 use Rattle.std.proofs.Common.{◌≡◌, ℕ, zero, suc, ◌<◌, List, [], ◌∷◌, Some, map, take, slice_get, refl, sym, ◌∙◌, ap, subst, arith, inl, inr}
 use Rattle.std.specs.Option.{option_map}
 use Rattle.syn_term.specs.Terms.{TermTree}
-use Rattle.syn_app.specs.declared.readings.Row.{Row}
-use Rattle.syn_app.specs.declared.readings.Step.TheVariants as step
-use Rattle.syn_app.specs.declared.readings.Step.{Step}
-use Rattle.syn_app.specs.declared.readings.Entry.{Entry}
+use Rattle.syn_app.specs.declared.flat.Row.{Row}
+use Rattle.syn_app.specs.declared.flat.Step.TheVariants as step
+use Rattle.syn_app.specs.declared.flat.Step.{Step}
+use Rattle.syn_app.specs.declared.flat.Entry.{Entry}
 use Rattle.syn_app.specs.Rows.{bare_row, simplified_row}
 use Rattle.syn_app.specs.Replay.{row_at, simplified_rows, simplified_entry}
-use Rattle.syn_app.specs.Shapes.{HasShape, HaveShape, StepGives, AreShaped}
+use Rattle.syn_app.specs.inner.Shapes.{HasShape, HaveShape, StepGives, AreShaped}
 
 map-at : (rows : List Row) (k : ℕ) → slice_get (map bare_row rows) k ≡ option_map bare_row (slice_get rows k)
 map-at [] k = refl

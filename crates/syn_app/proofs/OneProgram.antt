@@ -2,7 +2,7 @@
 use Rattle.std.proofs.Common.{◌≡◌, ℕ, ◌++◌, List, [], ◌∷◌, codes, refl, sym, ◌∙◌, ap, arith, append_assoc}
 use Rattle.std.proofs.lemmas.List.{append_cancel_left, append_cancel_right}
 use Rattle.syn_app.specs.Trees.{ProgramTree}
-use Rattle.syn_app.specs.declared.readings.TermReading.{TermReading}
+use Rattle.syn_app.specs.declared.flat.FlatTerm.{FlatTerm}
 use Rattle.syn_app.specs.ProgramTexts.{IsProgramText, program_lines, program_over}
 use Rattle.syn_app.specs.Terms.{term_text}
 use Rattle.syn_app.proofs.SpecTexts.{named_once}
@@ -28,7 +28,7 @@ word_same bytes n m i j a b ea eb = append_cancel_left (codes "program ") (from_
 body_same : (a b : List ℕ) → from_input a ≡ from_input b → a ≡ b
 body_same a b e = append_cancel_right a b (codes "\n") (append_cancel_left (codes " nat): nat\n  ") (a ++ codes "\n") (b ++ codes "\n") e)
 
-program_same : (p q i j : List ℕ) (s t : TermReading) → p ≡ q → i ≡ j → s ≡ t → program_over p i s ≡ program_over q j t
+program_same : (p q i j : List ℕ) (s t : FlatTerm) → p ≡ q → i ≡ j → s ≡ t → program_over p i s ≡ program_over q j t
 program_same p q i j s t a b c = cc
 
 -- no bytes are the text of two programs

@@ -12,7 +12,7 @@ use Rattle.syn_term.specs.Symbols.{SymbolTable, symbol_at}
 use Rattle.syn_term.specs.Terms.{application, bare, bare_step, nowhere, variable_tree}
 use Rattle.syn_app.specs.Trees.{TheoryTree}
 use Rattle.syn_app.specs.ProgramText.{Printed, printed_program, printed_term, symbol_printed}
-use Rattle.syn_app.specs.Printing.{nat_program, nat_program_symbols, printing_of}
+use Rattle.syn_app.specs.inner.Printing.{nat_program, nat_program_symbols, printing_of}
 use Rattle.syn_app.proofs.PrintedText.{printing-App, printing-Var}
 
 -- a variable and a symbol with arguments, their places left out

@@ -10,10 +10,10 @@ use Rattle.syn_term.specs.Terms.{TermTree, application, bare, nodes, nowhere}
 use Rattle.syn_app.specs.declared.trees.Out.TheVariants as out
 use Rattle.syn_app.specs.Trees.{TheoryTree, ProgramTree}
 use Rattle.syn_app.specs.ProgramText.{Printed, applied_text, number_text, printed_program, printed_term, successor_text, symbol_printed}
-use Rattle.syn_app.specs.declared.readings.Base.{Base}
-use Rattle.syn_app.specs.declared.readings.Base.TheVariants as base
-use Rattle.syn_app.specs.declared.readings.TermReading.{TermReading}
-use Rattle.syn_app.specs.Printing.{nat_program, nat_program_symbols, printing_of}
+use Rattle.syn_app.specs.declared.flat.Base.{Base}
+use Rattle.syn_app.specs.declared.flat.Base.TheVariants as base
+use Rattle.syn_app.specs.declared.flat.FlatTerm.{FlatTerm}
+use Rattle.syn_app.specs.inner.Printing.{nat_program, nat_program_symbols, printing_of}
 use Rattle.syn_app.specs.ProgramTexts.{IsProgramText, program_lines, program_over}
 use Rattle.syn_app.specs.SpecText.{nat_declared}
 use Rattle.syn_app.specs.Terms.{IsBase, IsClosed, base_tree, input_id, succ_id, successors_of, term_size, term_text, term_tree, wrapped, zero_id}
@@ -31,10 +31,10 @@ successors-successors (suc j) k t =
 abbrev with_tree : List ℕ → List ℕ → TermTree → ProgramTree
 with_tree name input t = record { name = name; inputs = nat_declared input ∷ []; result = sort.Nat; body = out.Give t }
 
-nat_same : (name input : List ℕ) (r : TermReading) → bare (term_tree r) ≡ term_tree r → nat_program name input (term_tree r) ≡ program_over name input r
+nat_same : (name input : List ℕ) (r : FlatTerm) → bare (term_tree r) ≡ term_tree r → nat_program name input (term_tree r) ≡ program_over name input r
 nat_same name input r e = ap (with_tree name input) e
 
-tree_same : (name input : List ℕ) (r q : TermReading) → term_tree r ≡ term_tree q → program_over name input r ≡ program_over name input q
+tree_same : (name input : List ℕ) (r q : FlatTerm) → term_tree r ≡ term_tree q → program_over name input r ≡ program_over name input q
 tree_same name input r q e = ap (with_tree name input) e
 
 -- what prints as no number, or as 1000, is put in brackets by a successor
@@ -77,9 +77,9 @@ module _ (table : SymbolTable) (zero_there : symbol_at table zero_id ≡ Some ze
       )
 
 module _ (name input : List ℕ) where
-  -- a reading of the tree of which the printed text is the text
+  -- a flat term of the tree, of which the printed text is the text
   record IsPrinted (t : TermTree) : Type 0 where
-    body : TermReading
+    body : FlatTerm
     tree : term_tree body ≡ t
     text : printed_term (nat_program_symbols name input) t ≡ term_text input body
     base : IsBase body.base
@@ -136,7 +136,7 @@ module _ (name input : List ℕ) where
   put_lines theory body = program_put (nat_program_symbols name input) name input body [] _ _ _ _ _ _ _ refl refl refl refl refl refl refl refl refl theory
 
   -- what is printed for the program of a closed term is a text of it
-  pub printed_is_text : (theory : TheoryTree) (r : TermReading) → IsName name → IsName input → (name ≡ input → ⊥) → IsClosed r.base → term_size r ≤ 1264 → IsProgramText (printed_program theory (program_over name input r)) (program_over name input r)
+  pub printed_is_text : (theory : TheoryTree) (r : FlatTerm) → IsName name → IsName input → (name ≡ input → ⊥) → IsClosed r.base → term_size r ≤ 1264 → IsProgramText (printed_program theory (program_over name input r)) (program_over name input r)
   printed_is_text theory r named input_named distinct closed short =
       let c = closed_printed r.successors r.base closed in
       let same : nat_program name input (term_tree r) ≡ program_over name input r = nat_same name input r (bare-term_tree r) in

@@ -14,8 +14,9 @@ use Rattle.syn_term.specs.declared.term.Node.TheVariants as node
 use Rattle.syn_term.specs.declared.term.Node.TheViews as view
 use denote.Hole.Carrier.{roll}
 use Rattle.syn_term.specs.Symbols.{SymbolTable, symbol_at}
-use Rattle.syn_app.specs.ProgramText.{Printed, print_step, symbol_printed, symbol_text, successor_text, number_text, applied_text, name_of, joined, texts_of, printed_term}
-use Rattle.syn_app.specs.Printing.{printing_of}
+use Rattle.syn_app.specs.ProgramText.{Printed, print_step, symbol_printed, symbol_text, successor_text, number_text, applied_text, joined, texts_of, printed_term}
+use Rattle.syn_app.specs.inner.Printing.{name_of}
+use Rattle.syn_app.specs.inner.Printing.{printing_of}
 
 -- the text and number at a symbol with arguments, and at a variable
 pub printing-App : (table : SymbolTable) (p : Place) (f : SymId) (args : List Node) → printing_of table (view.App p f args) ≡ symbol_printed (symbol_at table f) (map (printing_of table) args)

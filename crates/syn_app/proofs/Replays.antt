@@ -8,13 +8,13 @@ use Rattle.syn_term.specs.Bank.{Kept, Belongs, Agree, Agree-belongs}
 use Rattle.syn_app.specs.declared.trees.Form.TheVariants as form
 use Rattle.syn_app.specs.declared.trees.Out.TheVariants as out
 use Rattle.syn_app.specs.Trees.{FormTree, OutTree}
-use Rattle.syn_app.specs.declared.readings.Row.{Row}
-use Rattle.syn_app.specs.declared.readings.RowReading.{RowReading}
-use Rattle.syn_app.specs.declared.readings.Entry.{Entry}
+use Rattle.syn_app.specs.declared.flat.Row.{Row}
+use Rattle.syn_app.specs.declared.flat.FlatRow.{FlatRow}
+use Rattle.syn_app.specs.declared.flat.Entry.{Entry}
 use Rattle.syn_app.specs.DerivationText.{entry_of, row_tree}
 use Rattle.syn_app.specs.Rows.{bare_row, simplified_row, simplified_form}
 use Rattle.syn_app.specs.Replay.{simplified_rows, simplified_entry}
-use Rattle.syn_app.specs.Shapes.{FormBelongs, OutBelongs, RowBelongs, SidesAgree, FormAgrees, OutAgrees, RowAgrees, StepGives, ShapedAt, AreShaped, IsFirstUnshaped, IsNextRow}
+use Rattle.syn_app.specs.inner.Shapes.{FormBelongs, OutBelongs, RowBelongs, SidesAgree, FormAgrees, OutAgrees, RowAgrees, StepGives, ShapedAt, AreShaped, IsFirstUnshaped, IsNextRow}
 use Rattle.syn_app.proofs.Numbered.{same_entry}
 use Rattle.syn_app.proofs.Simplified.{bare_row-simplified}
 
@@ -36,16 +36,16 @@ out_agrees b (out.Give t) target h k = Agree-belongs b t target h k
 pub row_agrees : (b : Kept) (row : Row) (target : TermTree) → RowBelongs b row → Belongs b target → RowAgrees (simplified_row row) target
 row_agrees b row target h k = (form_agrees b row.form target h.0 k, out_agrees b row.out target h.1 k)
 
--- the row that was made and simplified is the reading's
-pub made_row : (made row : Row) (reading : RowReading) → bare_row made ≡ row_tree reading → row ≡ simplified_row made → bare_row row ≡ simplified_row (row_tree reading)
-made_row made row reading tree is = ap bare_row is ∙ (bare_row-simplified made ∙ ap simplified_row tree)
+-- the row that was made and simplified is the line's
+pub made_row : (made row : Row) (flat : FlatRow) → bare_row made ≡ row_tree flat → row ≡ simplified_row made → bare_row row ≡ simplified_row (row_tree flat)
+made_row made row flat tree is = ap bare_row is ∙ (bare_row-simplified made ∙ ap simplified_row tree)
 
-pub entry_at : (rows : List RowReading) (i : ℕ) (d r : RowReading) → r ≡ get_or rows i d → i < length rows → slice_get (map entry_of rows) i ≡ Some (entry_of r)
+pub entry_at : (rows : List FlatRow) (i : ℕ) (d r : FlatRow) → r ≡ get_or rows i d → i < length rows → slice_get (map entry_of rows) i ≡ Some (entry_of r)
 entry_at [] i d r is lt = absurd (omega arith)
-entry_at (x ∷ xs) zero d r is lt = ap (λ (z : RowReading). Some (entry_of z)) (sym is)
+entry_at (x ∷ xs) zero d r is lt = ap (λ (z : FlatRow). Some (entry_of z)) (sym is)
 entry_at (x ∷ xs) (suc i) d r is lt = entry_at xs i d r is (omega arith)
 
-module _ (rows : List RowReading) (i : ℕ) (d r : RowReading) (is : r ≡ get_or rows i d) (lt : i < length rows) where
+module _ (rows : List FlatRow) (i : ℕ) (d r : FlatRow) (is : r ≡ get_or rows i d) (lt : i < length rows) where
   rows_more : take (i + 1) (simplified_rows (map entry_of rows)) ≡ take i (simplified_rows (map entry_of rows)) ++ simplified_row (row_tree r) ∷ []
   rows_more =
       let entries = map entry_of rows in
@@ -53,7 +53,7 @@ module _ (rows : List RowReading) (i : ℕ) (d r : RowReading) (is : r ≡ get_o
       let more : i < length (simplified_rows entries) = rw length-map within in
       let a : get_or (simplified_rows entries) i (simplified_entry (entry_of r)) ≡ simplified_entry (get_or entries i (entry_of r)) = get_or-map simplified_entry entries i (entry_of r) (simplified_entry (entry_of r)) within in
       let b : get_or entries i (entry_of r) ≡ entry_of (get_or rows i d) = get_or-map entry_of rows i d (entry_of r) lt in
-      take_more (simplified_rows entries) i (simplified_entry (entry_of r)) more ∙ ap (λ (z : Row). take i (simplified_rows entries) ++ z ∷ []) (a ∙ (ap simplified_entry b ∙ ap (λ (z : RowReading). simplified_row (row_tree z)) (sym is)))
+      take_more (simplified_rows entries) i (simplified_entry (entry_of r)) more ∙ ap (λ (z : Row). take i (simplified_rows entries) ++ z ∷ []) (a ∙ (ap simplified_entry b ∙ ap (λ (z : FlatRow). simplified_row (row_tree z)) (sym is)))
 
   -- one row more is kept
   pub kept_more : (kept more : List Row) (row : Row) → map bare_row kept ≡ take i (simplified_rows (map entry_of rows)) → bare_row row ≡ simplified_row (row_tree r) → more ≡ kept ++ row ∷ [] → map bare_row more ≡ take (i + 1) (simplified_rows (map entry_of rows))
@@ -79,22 +79,22 @@ module _ (rows : List RowReading) (i : ℕ) (d r : RowReading) (is : r ≡ get_o
   }
 
 -- at the end all rows are kept
-pub kept_all : (rows : List RowReading) (i : ℕ) (kept : List Row) → length rows ≤ i → map bare_row kept ≡ take i (simplified_rows (map entry_of rows)) → map bare_row kept ≡ simplified_rows (map entry_of rows)
+pub kept_all : (rows : List FlatRow) (i : ℕ) (kept : List Row) → length rows ≤ i → map bare_row kept ≡ take i (simplified_rows (map entry_of rows)) → map bare_row kept ≡ simplified_rows (map entry_of rows)
 kept_all rows i kept end e = e ∙ take_all i (simplified_rows (map entry_of rows)) (rw (length-map, length-map) end)
 
 -- the answers of one turn, over plain variables
-module _ (t : TermTree) (before : List Row) (made row : Row) (reading : RowReading) (tree : bare_row made ≡ row_tree reading) (is : row ≡ simplified_row made) where
-  pub next_given : StepGives t before reading.step (bare_row row) → StepGives t before reading.step (simplified_row (row_tree reading)) × (bare_row row ≡ simplified_row (row_tree reading))
-  next_given g = let e = made_row made row reading tree is in (subst (λ (z : Row). StepGives t before reading.step z) e g, e)
+module _ (t : TermTree) (before : List Row) (made row : Row) (flat : FlatRow) (tree : bare_row made ≡ row_tree flat) (is : row ≡ simplified_row made) where
+  pub next_given : StepGives t before flat.step (bare_row row) → StepGives t before flat.step (simplified_row (row_tree flat)) × (bare_row row ≡ simplified_row (row_tree flat))
+  next_given g = let e = made_row made row flat tree is in (subst (λ (z : Row). StepGives t before flat.step z) e g, e)
 
-  pub next_refused : (StepGives t before reading.step (bare_row row) → ⊥) → StepGives t before reading.step (simplified_row (row_tree reading)) → ⊥
-  next_refused no_step g = no_step (subst (λ (z : Row). StepGives t before reading.step z) (sym (made_row made row reading tree is)) g)
+  pub next_refused : (StepGives t before flat.step (bare_row row) → ⊥) → StepGives t before flat.step (simplified_row (row_tree flat)) → ⊥
+  next_refused no_step g = no_step (subst (λ (z : Row). StepGives t before flat.step z) (sym (made_row made row flat tree is)) g)
 
 pub agrees_simplified : (b : Kept) (made row : Row) (target : TermTree) → row ≡ simplified_row made → RowBelongs b made → Belongs b target → RowAgrees row target
 agrees_simplified b made row target is h k = subst (λ (z : Row). RowAgrees z target) (sym is) (row_agrees b made target h k)
 
-pub next_none : (t : TermTree) (before : List Row) (reading : RowReading) (o : Option Row) → o ≡ None → IsNextRow t before reading o → StepGives t before reading.step (simplified_row (row_tree reading)) → ⊥
-next_none t before reading o e h = subst (IsNextRow t before reading) e h
+pub next_none : (t : TermTree) (before : List Row) (flat : FlatRow) (o : Option Row) → o ≡ None → IsNextRow t before flat o → StepGives t before flat.step (simplified_row (row_tree flat)) → ⊥
+next_none t before flat o e h = subst (IsNextRow t before flat) e h
 
-pub next_some : (t : TermTree) (before : List Row) (reading : RowReading) (o : Option Row) (row : Row) → o ≡ Some row → IsNextRow t before reading o → StepGives t before reading.step (simplified_row (row_tree reading)) × (bare_row row ≡ simplified_row (row_tree reading))
-next_some t before reading o row e h = subst (IsNextRow t before reading) e h
+pub next_some : (t : TermTree) (before : List Row) (flat : FlatRow) (o : Option Row) (row : Row) → o ≡ Some row → IsNextRow t before flat o → StepGives t before flat.step (simplified_row (row_tree flat)) × (bare_row row ≡ simplified_row (row_tree flat))
+next_some t before flat o row e h = subst (IsNextRow t before flat) e h

@@ -6,7 +6,7 @@ use Rattle.syn_term.proofs.Same.{same_tree-to, same_tree-from}
 use Rattle.syn_term.proofs.Trees.{fold-bare}
 use Rattle.syn_app.specs.declared.trees.Form.TheVariants as form
 use Rattle.syn_app.specs.Trees.{FormTree}
-use Rattle.syn_app.specs.declared.readings.Row.{Row}
+use Rattle.syn_app.specs.declared.flat.Row.{Row}
 use Rattle.syn_app.specs.Rows.{simplified_form, simplified_row, bare_form, bare_row}
 
 -- an equality of a term with itself

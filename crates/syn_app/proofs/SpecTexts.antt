@@ -4,10 +4,10 @@ use Rattle.std.proofs.lemmas.List.{append_cancel_left}
 use Rattle.syn_term.specs.Names.{IsName, is_name_byte}
 use Rattle.syn_term.proofs.NameLaws.{name_without}
 use Rattle.syn_term.specs.Terms.{nodes, depth_of}
-use Rattle.syn_app.specs.declared.readings.TermReading.{TermReading}
-use Rattle.syn_app.specs.Lines.{IsCut, IsFirstBad, Without}
+use Rattle.syn_app.specs.declared.flat.FlatTerm.{FlatTerm}
+use Rattle.syn_lex.specs.TextLines.{IsCut, IsFirstBad, Without}
 use Rattle.syn_app.specs.Limits.{FitsForm}
-use Rattle.syn_app.specs.Readers.{IsSpecReading, IsTerm}
+use Rattle.syn_app.specs.inner.Readers.{IsFlatSpec, IsTerm}
 use Rattle.syn_app.specs.SpecText.{ProgramNames, AreProgramNames, IsCondition, IsSpecText, ExtendsSpec, WholeSpec, spec_line, program_line, ensures_line, ensures_of, spec_of, output_variable}
 use Rattle.syn_app.specs.Terms.{term_text, term_tree}
 use Rattle.syn_app.specs.TheoryText.{ExtendsTheory, WholeTheory, theory_line}
@@ -101,7 +101,7 @@ module _ (line w p a : List ℕ) (cut_word : line ≡ codes "program " ++ w) (cu
           )
 
 -- an output condition fits where its term does
-module _ (size : ℕ) (r : TermReading) (is_nodes : size ≡ nodes (term_tree r)) (is_depth : size ≡ depth_of (term_tree r)) where
+module _ (size : ℕ) (r : FlatTerm) (is_nodes : size ≡ nodes (term_tree r)) (is_depth : size ≡ depth_of (term_tree r)) where
   pub fits_condition : size + 2 ≤ 4096 → size + 1 ≤ 1200 → FitsForm (ensures_of r)
   fits_condition n d =
       let vn = variable_nodes output_variable in
@@ -121,23 +121,23 @@ pub condition_rest : (line out a b : List ℕ) (r : Option (Bor (List ℕ))) →
 condition_rest line out a b None ea eb h = λ word e. h word (append_cancel_left out b (codes " = " ++ word) (sym eb ∙ append_cancel_left (codes "ensures ") a (out ++ (codes " = " ++ word)) (sym ea ∙ e)))
 condition_rest line out a b (Some x) ea eb h = ea ∙ ap (λ (t : List ℕ). codes "ensures " ++ t) (eb ∙ ap (λ (t : List ℕ). out ++ t) h)
 
-condition_term : (r : TermReading) → IsCondition r → IsTerm r
+condition_term : (r : FlatTerm) → IsCondition r → IsTerm r
 condition_term r h =
     let n = h.fits.0 in
     let t = nodes-term_tree r in
     (h.base, omega arith)
 
 module _ (line word : List ℕ) (n : ProgramNames) (named : IsName n.input) (cut : line ≡ codes "ensures " ++ (n.output ++ (codes " = " ++ word))) where
-  word_is : (r : TermReading) → line ≡ ensures_line n r → word ≡ term_text n.input r
+  word_is : (r : FlatTerm) → line ≡ ensures_line n r → word ≡ term_text n.input r
   word_is r e =
       append_cancel_left (codes " = ") word (term_text n.input r)
       (append_cancel_left n.output (codes " = " ++ word) (codes " = " ++ term_text n.input r)
       (append_cancel_left (codes "ensures ") (n.output ++ (codes " = " ++ word)) (n.output ++ (codes " = " ++ term_text n.input r)) (sym cut ∙ e)))
 
-  pub no_condition : ((r : TermReading) → IsTerm r → word ≡ term_text n.input r → ⊥) → (r : TermReading) → IsCondition r → line ≡ ensures_line n r → ⊥
+  pub no_condition : ((r : FlatTerm) → IsTerm r → word ≡ term_text n.input r → ⊥) → (r : FlatTerm) → IsCondition r → line ≡ ensures_line n r → ⊥
   no_condition none r ok e = none r (condition_term r ok) (word_is r e)
 
-  pub same_condition : (t : TermReading) → IsTerm t → word ≡ term_text n.input t → (r : TermReading) → IsCondition r → line ≡ ensures_line n r → IsCondition t
+  pub same_condition : (t : FlatTerm) → IsTerm t → word ≡ term_text n.input t → (r : FlatTerm) → IsCondition r → line ≡ ensures_line n r → IsCondition t
   same_condition t ok is r cond e =
       subst IsCondition (sym (term_once n.input t r named ok.0 cond.base (sym is ∙ word_is r e))) cond
 
@@ -177,7 +177,7 @@ module _ (bytes rest : List ℕ) where
       two_lines l m ls is1 is2 (suc zero) lt = (n, ok, is2)
       two_lines l m ls is1 is2 (suc (suc i)) lt = absurd (omega arith)
 
-      pub spec_third : (lines : List (List ℕ)) → IsCut bytes lines rest → get_or lines 0 [] ≡ spec_line name → get_or lines 1 [] ≡ program_line n → ((r : TermReading) → IsCondition r → get_or lines 2 [] ≡ ensures_line n r → ⊥) → IsFirstBad ExtendsSpec WholeSpec bytes 3
+      pub spec_third : (lines : List (List ℕ)) → IsCut bytes lines rest → get_or lines 0 [] ≡ spec_line name → get_or lines 1 [] ≡ program_line n → ((r : FlatTerm) → IsCondition r → get_or lines 2 [] ≡ ensures_line n r → ⊥) → IsFirstBad ExtendsSpec WholeSpec bytes 3
       spec_third [] cut is1 is2 none = absurd (cc)
       spec_third (l ∷ []) cut is1 is2 none = absurd (cc)
       spec_third (l ∷ m ∷ ls) cut is1 is2 none = record {
@@ -192,7 +192,7 @@ module _ (bytes rest : List ℕ) where
         early = λ e r whole. absurd (omega arith);
       }
 
-      module _ (t : TermReading) (cond : IsCondition t) where
+      module _ (t : FlatTerm) (cond : IsCondition t) where
         pub three_lines : (l m k : List ℕ) (ls : List (List ℕ)) → l ≡ spec_line name → m ≡ program_line n → k ≡ ensures_line n t → (i : ℕ) → i < 3 → ExtendsSpec (take i (l ∷ m ∷ k ∷ ls)) (get_or (l ∷ m ∷ k ∷ ls) i [])
         three_lines l m k ls is1 is2 is3 zero lt = (name, named, is1)
         three_lines l m k ls is1 is2 is3 (suc zero) lt = (n, ok, is2)
@@ -215,7 +215,7 @@ module _ (bytes rest : List ℕ) where
           early = λ e r whole. more (whole, r);
         }
 
-        pub spec_whole : (lines : List (List ℕ)) → IsCut bytes lines rest → get_or lines 0 [] ≡ spec_line name → get_or lines 1 [] ≡ program_line n → get_or lines 2 [] ≡ ensures_line n t → (length lines ≡ 3) × (rest ≡ []) → IsSpecReading bytes name n t
+        pub spec_whole : (lines : List (List ℕ)) → IsCut bytes lines rest → get_or lines 0 [] ≡ spec_line name → get_or lines 1 [] ≡ program_line n → get_or lines 2 [] ≡ ensures_line n t → (length lines ≡ 3) × (rest ≡ []) → IsFlatSpec bytes name n t
         spec_whole [] cut is1 is2 is3 all = absurd (cc)
         spec_whole (l ∷ []) cut is1 is2 is3 all = absurd (cc)
         spec_whole (l ∷ m ∷ []) cut is1 is2 is3 all = absurd (cc)
@@ -230,8 +230,8 @@ module _ (bytes rest : List ℕ) where
         spec_whole (l ∷ m ∷ k ∷ j ∷ ls) cut is1 is2 is3 all = let e : suc (suc (suc (suc (length ls)))) ≡ 3 = all.0 in absurd (omega arith)
 
 -- what is read is the text of a specification
-pub reading_text : (bytes name : List ℕ) (n : ProgramNames) (t : TermReading) → IsSpecReading bytes name n t → IsSpecText bytes (spec_of name n t)
-reading_text bytes name n t h = record {
+pub flat_text : (bytes name : List ℕ) (n : ProgramNames) (t : FlatTerm) → IsFlatSpec bytes name n t → IsSpecText bytes (spec_of name n t)
+flat_text bytes name n t h = record {
   name = name;
   names = n;
   term = t;

@@ -11,15 +11,15 @@ use Rattle.syn_term.proofs.Trees.{fold-Var, fold-bare}
 use Rattle.syn_app.specs.declared.trees.Form.TheVariants as form
 use Rattle.syn_app.specs.declared.trees.Out.TheVariants as out
 use Rattle.syn_app.specs.Trees.{FormTree, SpecTree}
-use Rattle.syn_app.specs.declared.readings.Row.{Row}
-use Rattle.syn_app.specs.declared.readings.TermReading.{TermReading}
-use Rattle.syn_app.specs.declared.readings.Step.{Step}
-use Rattle.syn_app.specs.declared.readings.Step.TheVariants as step
+use Rattle.syn_app.specs.declared.flat.Row.{Row}
+use Rattle.syn_app.specs.declared.flat.FlatTerm.{FlatTerm}
+use Rattle.syn_app.specs.declared.flat.Step.{Step}
+use Rattle.syn_app.specs.declared.flat.Step.TheVariants as step
 use Rattle.syn_app.specs.Terms.{term_tree, term_size, IsClosed}
 use Rattle.syn_app.specs.SpecText.{ensures_of}
 use Rattle.syn_app.specs.Limits.{FitsRow, FitsStep}
 use Rattle.syn_app.specs.Rows.{Substitution, image, substituted, substituted_step, renamed, renamed_step, renumbered, renamed_row, bare_row, HasVariable, has_variable_step, OccursIn, IsUnifier, IsMostGeneral, instance_of, AreVariants, simplified_row}
-use Rattle.syn_app.specs.Shapes.{row_variable, open_goal, solved_goal, IsOpen, HasShape, StepGives, IsTarget}
+use Rattle.syn_app.specs.inner.Shapes.{row_variable, open_goal, solved_goal, IsOpen, HasShape, StepGives}
 use Rattle.syn_app.specs.Replay.{Follows, row_at, goal_row, GoalGives, ReflexGives}
 use Rattle.syn_app.proofs.Closed.{substituted-closed, renamed-closed, bare-term_tree, closed-has, nodes-term_tree, depth_of-term_tree}
 
@@ -44,7 +44,7 @@ one_number m n h = grind (arith, nat_tests)
 variable-has : (k n : ℕ) → HasVariable k (row_variable n) → n ≡ k
 variable-has k n h = one_number n k (sym (fold-Var (has_variable_step k) nowhere (record { number = n; sort = sort.Nat })) ∙ h)
 
-module _ (r : TermReading) (closed : IsClosed r.base) where
+module _ (r : FlatTerm) (closed : IsClosed r.base) where
   abbrev tree : TermTree
   tree = term_tree r
 
@@ -77,7 +77,7 @@ exchanged-twice a b k = grind (arith, nat_tests)
 exchanged-first : (a b : ℕ) → exchanged a b a ≡ b
 exchanged-first a b = grind (arith, nat_tests)
 
-module _ (r : TermReading) (closed : IsClosed r.base) (short : term_size r ≤ 1199) where
+module _ (r : FlatTerm) (closed : IsClosed r.base) (short : term_size r ≤ 1199) where
   fits-open : (n : ℕ) → FitsRow (open_goal (term_tree r) n)
   fits-open n =
       let a = nodes-term_tree r in
@@ -207,29 +207,37 @@ module _ (r : TermReading) (closed : IsClosed r.base) (short : term_size r ≤ 1
     pub reflex_solved : (row : Row) → ReflexGives (solved_goal (term_tree r)) row → ⊥
     reflex_solved row g = cc (g.equality)
 
+-- the term is the one that the output condition of the specification asks for
+pub record IsTarget (target : TermTree) (spec : SpecTree) : Type 0 where
+  pub flat : FlatTerm
+  pub closed : IsClosed flat.base
+  pub short : term_size flat ≤ 1199
+  pub is : target ≡ term_tree flat
+  pub condition : spec.ensures_form ≡ ensures_of flat
+
 -- where all rows before are of the two shapes, a row follows exactly where the step gives it, in shapes
 module _ (t : TermTree) (spec : SpecTree) (target : IsTarget t spec) (before : List Row) (shapes : (k : ℕ) (parent : Row) → row_at before k ≡ Some parent → HasShape t parent) (row : Row) where
-  abbrev r : TermReading
-  r = target.reading
+  abbrev r : FlatTerm
+  r = target.flat
 
   pub follows_from : (s : Step) → StepGives t before s (bare_row row) → Follows spec before s row
-  follows_from step.Goal g = goal_gives target.reading target.closed target.short spec target.condition row g.0 (g.1 ∙ ap (λ (z : TermTree). open_goal z g.0) target.is)
+  follows_from step.Goal g = goal_gives target.flat target.closed target.short spec target.condition row g.0 (g.1 ∙ ap (λ (z : TermTree). open_goal z g.0) target.is)
   follows_from (step.Reflex k) g = (
     open_goal t g.0.0,
     g.0.1,
-    subst (λ (z : TermTree). ReflexGives (open_goal z g.0.0) row) (sym target.is) (reflex_gives target.reading target.closed target.short spec target.condition row g.0.0 (g.1 ∙ ap solved_goal target.is)),
+    subst (λ (z : TermTree). ReflexGives (open_goal z g.0.0) row) (sym target.is) (reflex_gives target.flat target.closed target.short spec target.condition row g.0.0 (g.1 ∙ ap solved_goal target.is)),
   )
 
   reflects : (parent : Row) → HasShape t parent → ReflexGives parent row → IsOpen t parent × (bare_row row ≡ solved_goal t)
   reflects parent (inl o) g = (
     o,
-    reflex_only target.reading target.closed target.short spec target.condition row o.0 (subst (λ (z : Row). ReflexGives z row) (o.1 ∙ ap (λ (z : TermTree). open_goal z o.0) target.is) g) ∙ ap solved_goal (sym target.is),
+    reflex_only target.flat target.closed target.short spec target.condition row o.0 (subst (λ (z : Row). ReflexGives z row) (o.1 ∙ ap (λ (z : TermTree). open_goal z o.0) target.is) g) ∙ ap solved_goal (sym target.is),
   )
-  reflects parent (inr s) g = absurd (reflex_solved target.reading target.closed target.short spec target.condition row (subst (λ (z : Row). ReflexGives z row) (s ∙ ap solved_goal target.is) g))
+  reflects parent (inr s) g = absurd (reflex_solved target.flat target.closed target.short spec target.condition row (subst (λ (z : Row). ReflexGives z row) (s ∙ ap solved_goal target.is) g))
 
   pub follows_to : (s : Step) → Follows spec before s row → StepGives t before s (bare_row row)
   follows_to step.Goal g =
-      let h = goal_only target.reading target.closed target.short spec target.condition row g in
+      let h = goal_only target.flat target.closed target.short spec target.condition row g in
       (h.0, h.1 ∙ ap (λ (z : TermTree). open_goal z h.0) (sym target.is))
   follows_to (step.Reflex k) f =
       let h = reflects f.0 (shapes k f.0 f.1) f.2 in

@@ -5,8 +5,8 @@ use Rattle.syn_term.specs.declared.sorts.Sort.TheVariants as sort
 use Rattle.syn_term.specs.Names.{IsName}
 use Rattle.syn_term.specs.Symbols.{IsSort, MayAdd, SymbolTable, first_symbols, with_symbol}
 use Rattle.syn_term.proofs.NameLaws.{name_first_no_digit}
-use Rattle.syn_app.specs.Printing.{nat_input_symbol, nat_program_symbol, nat_program_symbols}
-use Rattle.syn_app.specs.Shapes.{HasTexts}
+use Rattle.syn_app.specs.inner.Printing.{nat_input_symbol, nat_program_symbol, nat_program_symbols}
+use Rattle.syn_app.specs.inner.Shapes.{HasTexts}
 
 not_zero : (name : List ℕ) → IsName name → codes "0" ≡ name → ⊥
 not_zero name h e =

@@ -11,11 +11,11 @@ use Rattle.syn_term.proofs.NameLaws.{name_without, name_first_other, name_first_
 use Rattle.syn_term.specs.Terms.{nodes, nodes_step, depth_of, depth_step, variable_tree, nowhere}
 use Rattle.syn_term.specs.declared.sorts.Var.{Var}
 use Rattle.syn_term.proofs.Trees.{fold-Var}
-use Rattle.syn_app.specs.declared.readings.Base.{Base}
-use Rattle.syn_app.specs.declared.readings.Base.TheVariants as base
-use Rattle.syn_app.specs.declared.readings.TermReading.{TermReading}
-use Rattle.syn_app.specs.Lines.{Without}
-use Rattle.syn_app.specs.Readers.{IsTerm}
+use Rattle.syn_app.specs.declared.flat.Base.{Base}
+use Rattle.syn_app.specs.declared.flat.Base.TheVariants as base
+use Rattle.syn_app.specs.declared.flat.FlatTerm.{FlatTerm}
+use Rattle.syn_lex.specs.TextLines.{Without}
+use Rattle.syn_app.specs.inner.Readers.{IsTerm}
 use Rattle.syn_app.specs.Terms.{wrapped, base_text, term_text, IsBase, base_size, term_size}
 
 -- no bracket can be taken off
@@ -105,7 +105,7 @@ unwrapped_is (suc n) (suc m) most x y hn hm bx by e =
     unwrapped_is n m (most - 1) x y (omega arith) (omega arith) (λ lt. bx (omega arith)) by (append_cancel_right (wrapped n x) (wrapped m y) (41 ∷ []) t)
 
 -- where what is left is no base, the word is no term
-pub no_term : (word input inner : List ℕ) (n : ℕ) → IsName input → word ≡ wrapped n inner → n ≤ 4096 → (n < 4096 → IsBare inner) → ((b : Base) → IsBase b → inner ≡ base_text input b → ⊥) → (r : TermReading) → IsTerm r → word ≡ term_text input r → ⊥
+pub no_term : (word input inner : List ℕ) (n : ℕ) → IsName input → word ≡ wrapped n inner → n ≤ 4096 → (n < 4096 → IsBare inner) → ((b : Base) → IsBase b → inner ≡ base_text input b → ⊥) → (r : FlatTerm) → IsTerm r → word ≡ term_text input r → ⊥
 no_term word input inner n named is most bare none r ok e =
     none r.base ok.0 (unwrapped_is n r.successors 4096 inner (base_text input r.base) most ok.1 bare (base_bare input r.base named ok.0) (sym is ∙ e))
 
@@ -139,14 +139,14 @@ base_once input (base.RowVariable m) (base.Number n) named hb hc e = absurd (dec
 base_once input (base.RowVariable m) (base.RowVariable n) named hb hc e =
     let t : decimal m ≡ decimal n = cc in ap (λ (k : ℕ). base.RowVariable k) (number_same m n (row_low m hb) (row_low n hc) t)
 
-reading_same : (s t : ℕ) (b c : Base) → s ≡ t → b ≡ c → ◌≡◌ {A = TermReading} (record { successors = s; base = b }) (record { successors = t; base = c })
-reading_same s t b c h k = cc
+flat_same : (s t : ℕ) (b c : Base) → s ≡ t → b ≡ c → ◌≡◌ {A = FlatTerm} (record { successors = s; base = b }) (record { successors = t; base = c })
+flat_same s t b c h k = cc
 
 -- no word is the text of two terms
-pub term_once : (input : List ℕ) (r q : TermReading) → IsName input → IsBase r.base → IsBase q.base → term_text input r ≡ term_text input q → r ≡ q
+pub term_once : (input : List ℕ) (r q : FlatTerm) → IsName input → IsBase r.base → IsBase q.base → term_text input r ≡ term_text input q → r ≡ q
 term_once input r q named hr hq e =
     let p = wrapped_same r.successors q.successors (base_text input r.base) (base_text input q.base) (base_bare input r.base named hr) (base_bare input q.base named hq) e in
-    reading_same r.successors q.successors r.base q.base p.0 (base_once input r.base q.base named hr hq p.1)
+    flat_same r.successors q.successors r.base q.base p.0 (base_once input r.base q.base named hr hq p.1)
 
 wrapped_without : (n b : ℕ) (x : List ℕ) → (115 ≡ b → ⊥) → (40 ≡ b → ⊥) → (41 ≡ b → ⊥) → Without b x → Without b (wrapped n x)
 wrapped_without zero b x hs ho hc h = h
@@ -161,7 +161,7 @@ base_no_space input (base.Number n) named ok = decimal_without n 32 (small n ok)
 base_no_space input (base.RowVariable n) named ok = All-cons (λ c. c ≡ 32 → ⊥) 63 (decimal n) (λ e. absurd (omega arith)) (decimal_without n 32 (row_low n ok) (inl (omega arith)))
 
 -- a term is one word
-pub term_no_space : (input : List ℕ) (r : TermReading) → IsName input → IsBase r.base → Without 32 (term_text input r)
+pub term_no_space : (input : List ℕ) (r : FlatTerm) → IsName input → IsBase r.base → Without 32 (term_text input r)
 term_no_space input r named ok = wrapped_without r.successors 32 (base_text input r.base) (λ e. absurd (omega arith)) (λ e. absurd (omega arith)) (λ e. absurd (omega arith)) (base_no_space input r.base named ok)
 
 -- the output's variable, as any leaf, has one node
@@ -176,5 +176,5 @@ base_some base.Input = omega arith
 base_some (base.Number n) = omega arith
 base_some (base.RowVariable n) = omega arith
 
-pub term_some : (r : TermReading) → 0 < term_size r
+pub term_some : (r : FlatTerm) → 0 < term_size r
 term_some r = let h = base_some r.base in omega arith

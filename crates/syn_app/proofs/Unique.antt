@@ -6,12 +6,12 @@ use Rattle.syn_outside.specs.Files.{File}
 use Rattle.syn_outside.specs.Faults.{HasCause, Rose}
 use Rattle.syn_term.specs.Names.{IsName}
 use Rattle.syn_app.specs.Trees.{Declared, TheoryTree, SpecTree}
-use Rattle.syn_app.specs.declared.readings.Entry.{Entry}
+use Rattle.syn_app.specs.declared.flat.Entry.{Entry}
 use Rattle.syn_app.specs.declared.status.Status.{Status}
 use Rattle.syn_app.specs.declared.status.Status.TheVariants as status
 use Rattle.syn_app.specs.declared.status.Which.{Which}
 use Rattle.syn_app.specs.declared.status.Which.TheVariants as which
-use Rattle.syn_app.specs.Lines.{IsFirstBad}
+use Rattle.syn_lex.specs.TextLines.{IsFirstBad}
 use Rattle.syn_app.specs.SpecText.{HasInput, IsSpecText, nat_declared}
 use Rattle.syn_app.specs.TheoryText.{ExtendsTheory, WholeTheory}
 use Rattle.syn_app.specs.SpecText.{ExtendsSpec, WholeSpec}
@@ -19,7 +19,7 @@ use Rattle.syn_app.specs.DerivationText.{ExtendsDerivation, IsDerivationText, Wh
 use Rattle.syn_app.specs.Replay.{FollowsAt, IsFirstToFail}
 use Rattle.syn_app.specs.Comes.{AreWords, Comes, ComesFor, FileNames, IsLong, IsShort, ReadsSpec, ReadsTheory, Scene}
 use Rattle.syn_app.specs.Settled.{AfterSpec, AfterTheory, DerivationSettles, EntriesSettle, Has, IsBadText, IsMissing, IsQuiet, IsTextOf, Settles, SpecSettles, TheorySettles}
-use Rattle.syn_app.proofs.Exact.{derivation_is_text, derivation_text_once, derivation_text_reading, first_bad_once, spec_is_text, spec_text_once, spec_text_reading, text_or_bad, theory_is_text, theory_once}
+use Rattle.syn_app.proofs.Exact.{derivation_is_text, derivation_text_once, derivation_text_flat, first_bad_once, spec_is_text, spec_text_once, spec_text_flat, text_or_bad, theory_is_text, theory_once}
 
 -- a file has one content
 one_file : (fs : List File) (name : List ℕ) (P Q : List ℕ → Type 0) → Has fs name P → Has fs name Q → (bytes : List ℕ) × (P bytes × Q bytes)
@@ -85,7 +85,7 @@ module _ (fs : List File) (n : FileNames) where
   spec_passes spec (status.BadSpec k) h p =
       let both = one_file fs n.spec (λ b. IsShort b × IsFirstBad ExtendsSpec WholeSpec b k) (λ b. ReadsSpec b spec) h p in
       let text : IsSpecText both.0 spec = both.1.1.1 in
-      text_or_bad ExtendsSpec WholeSpec both.0 k (spec_is_text both.0 text.name text.names text.term (spec_text_reading both.0 spec text)) both.1.0.1
+      text_or_bad ExtendsSpec WholeSpec both.0 k (spec_is_text both.0 text.name text.names text.term (spec_text_flat both.0 spec text)) both.1.0.1
   spec_passes spec _ h p = absurd h
 
 -- the rows settle one answer at most
@@ -138,7 +138,7 @@ module _ (theory : TheoryTree) (spec : SpecTree) (names : (input : List ℕ) →
   bad_or_text : (k : ℕ) (P : List Entry → Type 0) → IsBadText spec k d → IsTextOf spec P d → ⊥
   bad_or_text k P a b =
       let i : a.input ≡ b.input = one_input spec a.input b.input a.input_is b.input_is in
-      text_or_bad (ExtendsDerivation b.input) WholeDerivation d k (derivation_is_text b.input d b.text.rows (derivation_text_reading b.input d b.entries b.text)) (subst (λ (z : List ℕ). IsFirstBad (ExtendsDerivation z) WholeDerivation d k) i a.bad)
+      text_or_bad (ExtendsDerivation b.input) WholeDerivation d k (derivation_is_text b.input d b.text.rows (derivation_text_flat b.input d b.entries b.text)) (subst (λ (z : List ℕ). IsFirstBad (ExtendsDerivation z) WholeDerivation d k) i a.bad)
 
 -- the input of a specification that was read is a name
 pub input_named : (bytes : List ℕ) (spec : SpecTree) → IsSpecText bytes spec → (input : List ℕ) → HasInput spec input → IsName input

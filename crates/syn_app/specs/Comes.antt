@@ -1,4 +1,4 @@
--- When each status of the top call comes. Each case says the whole way to its place in the order of the work: the
+-- For public contracts: when each status of the top call comes. Each case says the whole way to its place in the order of the work: the
 -- words; the theory read, then its text; the specification read, then its text; the derivation read, then its text; the
 -- replay; the write. So where files are told the cases exclude one another.
 use Rattle.std.specs.Prelude.{◌≡◌, ◌⊎◌, ℕ, ◌<◌, ◌≤◌, List, Option, length}
@@ -7,12 +7,12 @@ use Rattle.syn_outside.specs.Faults.{HasCause, Rose}
 use Rattle.syn_outside.specs.Texts.{Adds, AddsPrefix}
 use Rattle.syn_app.specs.Trees.{TheoryTree, SpecTree, ProgramTree}
 use Rattle.syn_app.specs.ProgramText.{printed_program}
-use Rattle.syn_app.specs.declared.readings.Entry.{Entry}
+use Rattle.syn_app.specs.declared.flat.Entry.{Entry}
 use Rattle.syn_app.specs.declared.status.Status.{Status}
 use Rattle.syn_app.specs.declared.status.Status.TheVariants as status
 use Rattle.syn_app.specs.declared.status.Which.{Which}
 use Rattle.syn_app.specs.declared.status.Which.TheVariants as which
-use Rattle.syn_app.specs.Lines.{IsFirstBad}
+use Rattle.syn_lex.specs.TextLines.{IsFirstBad}
 use Rattle.syn_app.specs.Words.{IsCheck, IsNoCheck}
 use Rattle.syn_app.specs.TheoryText.{ExtendsTheory, IsTheoryText, WholeTheory}
 use Rattle.syn_app.specs.SpecText.{ExtendsSpec, HasInput, IsSpecText, WholeSpec}

@@ -1,10 +1,10 @@
--- What it is for a program to be correct for a specification.
+-- For public contracts: what it is for a program to be correct for a specification.
 use Rattle.std.specs.Prelude.{◌≡◌, ℕ, List, None, Some, map, if◌then◌else◌, nat_eq}
 use Rattle.syn_app.specs.declared.trees.Value.{Value}
 use Rattle.syn_app.specs.Trees.{TheoryTree, SpecTree, ProgramTree, spec_symbols, first_input, sort_declared}
 use Rattle.syn_app.specs.Values.{OfSort, OfSorts}
 use Rattle.syn_app.specs.Evaluation.{Meaning, Environment, inputs_read, call_of}
-use Rattle.syn_app.specs.Truth.{IsTrueIn}
+use Rattle.syn_app.specs.TrueIn.{IsTrueIn}
 
 -- what gives the symbols of a specification their meaning; a call of the program has none
 abbrev pub spec_meaning : TheoryTree → SpecTree → Meaning

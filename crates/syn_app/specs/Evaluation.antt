@@ -1,7 +1,7 @@
--- Evaluation with its turns. It is strict, from left to right. The number n bounds how deep calls nest, and nothing is
+-- For public contracts: evaluation with its turns. It is strict, from left to right. The number n bounds how deep calls nest, and nothing is
 -- given where they nest deeper; turns are only counted. A turn is taken by each call of the program and by each
 -- constructor with arguments, once the arguments have their values.
-use Rattle.std.specs.Prelude.{ℕ, zero, suc, ◌+◌, ◌-◌, Bool, true, List, [], ◌∷◌, Option, None, Some, slice_get, if◌then◌else◌, nat_lt}
+use Rattle.std.specs.Prelude.{ℕ, zero, suc, ◌+◌, ◌-◌, List, [], ◌∷◌, Option, None, Some, slice_get, if◌then◌else◌, nat_lt}
 use Rattle.std.specs.Option.{option_map, option_and_then}
 use Rattle.syn_term.specs.declared.sorts.Kind.{Kind}
 use Rattle.syn_term.specs.declared.sorts.Kind.TheVariants as kind
@@ -11,10 +11,8 @@ use Rattle.syn_term.specs.Symbols.{SymbolTable, symbol_at}
 use Rattle.syn_term.specs.Terms.{TermTree}
 use Rattle.syn_app.specs.declared.trees.Value.{Value}
 use Rattle.syn_app.specs.declared.trees.Value.TheVariants.{Num}
-use Rattle.syn_app.specs.declared.trees.Form.TheVariants as form
 use Rattle.syn_app.specs.declared.trees.Out.TheVariants as out
-use Rattle.syn_app.specs.Trees.{OutTree, FormTree, TheoryTree, ProgramTree, program_symbols, first_input}
-use Rattle.syn_app.specs.Values.{same_value}
+use Rattle.syn_app.specs.Trees.{OutTree, TheoryTree, ProgramTree, program_symbols, first_input}
 
 -- a value, and the turns that it takes
 abbrev pub Answer : Type 0
@@ -82,17 +80,6 @@ call_at m (suc n) values = option_and_then (λ body. after 1 (out_by m.symbols (
 
 abbrev pub evaluate_term : Meaning → ℕ → Environment → TermTree → Answer
 evaluate_term m n env t = term_by m.symbols (call_at m n) env t
-
-abbrev pub evaluate_out : Meaning → ℕ → Environment → OutTree → Answer
-evaluate_out m n env o = out_by m.symbols (call_at m n) env o
-
-abbrev both_sides : Value × ℕ → Value × ℕ → Bool × ℕ
-both_sides x y = (same_value x.0 y.0, x.1 + y.1)
-
--- a formula gives a truth value: an equality is true where both sides give the same value
-abbrev pub evaluate_form : Meaning → ℕ → Environment → FormTree → Option (Bool × ℕ)
-evaluate_form m n env form.True = Some (true, 0)
-evaluate_form m n env (form.Equal s t) = option_and_then (λ x. option_map (both_sides x) (evaluate_term m n env t)) (evaluate_term m n env s)
 
 -- what gives the symbols of a program their meaning
 abbrev pub program_meaning : TheoryTree → ProgramTree → Meaning

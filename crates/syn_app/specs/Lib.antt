@@ -1,7 +1,7 @@
 pub mod Values
 pub mod Trees
 pub mod Evaluation
-pub mod Truth
+pub mod TrueIn
 pub mod Correctness
 pub mod ProgramText
 pub mod Primitive
@@ -11,15 +11,12 @@ pub mod Terms
 pub mod TheoryText
 pub mod SpecText
 pub mod DerivationText
-pub mod Readers
 pub mod Rows
 pub mod Replay
-pub mod Shapes
 pub mod Status
 pub mod Words
-pub mod Printing
 pub mod Checks
 pub mod Comes
-pub mod Stages
 pub mod Settled
 pub mod ProgramTexts
+pub mod inner

@@ -1,11 +1,11 @@
--- The limits on trees: an expression has at most 4,096 nodes and is at most 1,200 deep, and so is a row, whose formula
+-- For public contracts: the limits on trees: an expression has at most 4,096 nodes and is at most 1,200 deep, and so is a row, whose formula
 -- and output count together; the instances of a step have at most 65,536 nodes and are at most 2,400 deep.
 use Rattle.std.specs.Prelude.{ℕ, ◌+◌, ◌≤◌, max}
 use Rattle.syn_term.specs.Terms.{TermTree, nodes, depth_of}
 use Rattle.syn_app.specs.declared.trees.Form.TheVariants as form
 use Rattle.syn_app.specs.declared.trees.Out.TheVariants as out
 use Rattle.syn_app.specs.Trees.{FormTree, OutTree}
-use Rattle.syn_app.specs.declared.readings.Row.{Row}
+use Rattle.syn_app.specs.declared.flat.Row.{Row}
 
 abbrev pub form_nodes : FormTree → ℕ
 form_nodes form.True = 1

@@ -1,57 +1,15 @@
--- Files as lines, and lines as words. A file is a list of lines, each ended by a line feed, counted from 1. A line is
--- made of words with one space between.
-use Rattle.std.specs.Prelude.{◌≡◌, ℕ, ◌+◌, ◌<◌, ◌≤◌, List, [], ◌∷◌, ◌++◌, All, length, take, slice_index_or}
-use Rattle.std.specs.List.{flat_map}
+-- For public contracts: lines as words. A line is made of words with one space between.
+use Rattle.std.specs.Prelude.{◌≡◌, ℕ, ◌<◌, List, [], ◌∷◌, ◌++◌, All, length}
+use Rattle.syn_lex.specs.TextLines.{Without}
 
--- the text has no such byte
-abbrev pub Without : ℕ → List ℕ → Type 0
-Without b text = All (λ c. ¬ (c ≡ b)) text
-
-abbrev pub with_feed : List ℕ → List ℕ
-with_feed line = line ++ 10 ∷ []
-
--- the bytes are these lines, each ended by a line feed, and then the rest, which has none
-pub record IsCut (bytes : List ℕ) (lines : List (List ℕ)) (rest : List ℕ) : Type 0 where
-  pub is : flat_map with_feed lines ++ rest ≡ bytes
-  pub clean : All (Without 10) lines
-  pub open_clean : Without 10 rest
-
--- the words with one space between
+-- The words with one space between.
 abbrev pub in_words : List (List ℕ) → List ℕ
 in_words [] = []
 in_words (w ∷ []) = w
 in_words (w ∷ v ∷ more) = w ++ 32 ∷ in_words (v ∷ more)
 
--- the line is these words, of which none has a space
+-- The line is these words, of which none has a space.
 pub record IsWords (line : List ℕ) (words : List (List ℕ)) : Type 0 where
   pub is : in_words words ≡ line
   pub some : 0 < length words
   pub clean : All (Without 32) words
-
--- line i, from 0, extends the lines before it; Extends says which lines extend which
-abbrev pub ExtendsAt : (List (List ℕ) → List ℕ → Type 0) → List (List ℕ) → ℕ → Type 0
-ExtendsAt Extends lines i = Extends (take i lines) (slice_index_or lines i [])
-
--- the lines begin a text: each extends those before it
-abbrev pub Begins : (List (List ℕ) → List ℕ → Type 0) → List (List ℕ) → Type 0
-Begins Extends lines = (i : ℕ) → i < length lines → ExtendsAt Extends lines i
-
--- the bytes are a text: lines that begin one, each ended by a line feed, and nothing is missing
-pub record IsText (Extends : List (List ℕ) → List ℕ → Type 0) (Whole : List (List ℕ) → Type 0) (bytes : List ℕ) : Type 0 where
-  pub lines : List (List ℕ)
-  pub cut : IsCut bytes lines []
-  pub begins : Begins Extends lines
-  pub whole : Whole lines
-
--- line n, from 1, is the first that doesn't extend those before it, or the one after the last where the text ends too
--- early; bytes after the last line feed are a line that extends nothing
-pub record IsFirstBad (Extends : List (List ℕ) → List ℕ → Type 0) (Whole : List (List ℕ) → Type 0) (bytes : List ℕ) (n : ℕ) : Type 0 where
-  pub lines : List (List ℕ)
-  pub rest : List ℕ
-  pub cut : IsCut bytes lines rest
-  pub at : ℕ
-  pub is : n ≡ at + 1
-  pub within : at ≤ length lines
-  pub before : (i : ℕ) → i < at → ExtendsAt Extends lines i
-  pub bad : at < length lines → ¬ (ExtendsAt Extends lines at)
-  pub early : at ≡ length lines → rest ≡ [] → ¬ (Whole lines)

@@ -1,4 +1,4 @@
--- Programs of primitive symbols: what a program may be made of.
+-- For public contracts: programs of primitive symbols: what a program may be made of.
 use Rattle.std.specs.Prelude.{◌≡◌, Bool, true, false, ◌&&◌, Option, None, Some}
 use Rattle.std.specs.List.{list_all}
 use Rattle.syn_term.specs.declared.sorts.Sym.{Sym}

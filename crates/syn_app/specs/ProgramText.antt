@@ -1,4 +1,4 @@
--- The one text that is printed for a program.
+-- For public contracts: the one text that is printed for a program.
 use Rattle.std.specs.Prelude.{ℕ, ◌+◌, List, [], ◌∷◌, ◌++◌, Option, None, Some, codes, decimal, if◌then◌else◌, nat_lt, slice_get}
 use Rattle.std.specs.Option.{option_map_or}
 use Rattle.syn_term.specs.declared.sorts.Sort.{Sort}
@@ -47,10 +47,6 @@ abbrev pub symbol_text : Kind → List ℕ → List Printed → Printed
 symbol_text kind.Zero name [] = number_text 0
 symbol_text kind.Succ name (p ∷ []) = successor_text name p p.number
 symbol_text _ name ps = applied_text name ps
-
-abbrev pub name_of : Option Sym → List ℕ
-name_of None = []
-name_of (Some s) = s.name
 
 abbrev pub symbol_printed : Option Sym → List Printed → Printed
 symbol_printed None ps = applied_text [] ps

@@ -1,4 +1,4 @@
--- When a row of a derivation follows, when a derivation is accepted, and what its program is. A row is judged after
+-- For public contracts: when a row of a derivation follows, when a derivation is accepted, and what its program is. A row is judged after
 -- simplification: its simplified formula is what follows and what later rows build on.
 use Rattle.std.specs.Prelude.{◌≡◌, ℕ, zero, suc, ◌+◌, ◌<◌, List, [], Option, None, Some, map, take, length, slice_get}
 use Rattle.std.specs.Option.{option_map}
@@ -10,10 +10,10 @@ use Rattle.syn_app.specs.declared.trees.Form.TheVariants as form
 use Rattle.syn_app.specs.declared.trees.Out.TheVariants as out
 use Rattle.syn_app.specs.Trees.{OutTree, TheoryTree, SpecTree, ProgramTree, spec_symbols}
 use Rattle.syn_app.specs.Primitive.{IsPrimitiveOut}
-use Rattle.syn_app.specs.declared.readings.Row.{Row}
-use Rattle.syn_app.specs.declared.readings.Step.{Step}
-use Rattle.syn_app.specs.declared.readings.Step.TheVariants as step
-use Rattle.syn_app.specs.declared.readings.Entry.{Entry}
+use Rattle.syn_app.specs.declared.flat.Row.{Row}
+use Rattle.syn_app.specs.declared.flat.Step.{Step}
+use Rattle.syn_app.specs.declared.flat.Step.TheVariants as step
+use Rattle.syn_app.specs.declared.flat.Entry.{Entry}
 use Rattle.syn_app.specs.Limits.{FitsRow, FitsStep}
 use Rattle.syn_app.specs.Rows.{Substitution, IsMostGeneral, instance_of, AreVariants, simplified_row}
 use Rattle.syn_app.specs.SpecText.{output_variable}

@@ -1,4 +1,4 @@
--- Rows: substitutions and unifiers, variants, and simplification.
+-- For public contracts: rows: substitutions and unifiers, variants, and simplification.
 use Rattle.std.specs.Prelude.{◌≡◌, ℕ, Bool, true, List, [], ◌∷◌, if◌then◌else◌, nat_eq}
 use Rattle.std.specs.List.{list_any, AllByRecursion}
 use Rattle.syn_term.specs.declared.sorts.Var.{Var}
@@ -9,7 +9,7 @@ use Rattle.syn_term.specs.Same.{same_tree}
 use Rattle.syn_app.specs.declared.trees.Form.TheVariants as form
 use Rattle.syn_app.specs.declared.trees.Out.TheVariants as out
 use Rattle.syn_app.specs.Trees.{FormTree, OutTree}
-use Rattle.syn_app.specs.declared.readings.Row.{Row}
+use Rattle.syn_app.specs.declared.flat.Row.{Row}
 
 -- a substitution lists finitely many variables, by their numbers, each with its term
 abbrev pub Substitution : Type 0

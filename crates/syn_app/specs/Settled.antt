@@ -1,14 +1,14 @@
--- What the words and the files ask for, faults of the outside and want of memory aside. It speaks of what stands before
+-- For public contracts: what the words and the files ask for, faults of the outside and want of memory aside. It speaks of what stands before
 -- the call alone: each stage settles the answer, or it passes and the next one does.
 use Rattle.std.specs.Prelude.{◌≡◌, ◌⊎◌, ℕ, List, None, Some}
 use Rattle.syn_outside.specs.Files.{File, Told, file_of}
 use Rattle.syn_outside.specs.Faults.{Rose}
 use Rattle.syn_app.specs.Trees.{TheoryTree, SpecTree}
-use Rattle.syn_app.specs.declared.readings.Entry.{Entry}
+use Rattle.syn_app.specs.declared.flat.Entry.{Entry}
 use Rattle.syn_app.specs.declared.status.Status.{Status}
 use Rattle.syn_app.specs.declared.status.Status.TheVariants as status
 use Rattle.syn_app.specs.declared.status.Which.TheVariants as which
-use Rattle.syn_app.specs.Lines.{IsFirstBad}
+use Rattle.syn_lex.specs.TextLines.{IsFirstBad}
 use Rattle.syn_app.specs.TheoryText.{ExtendsTheory, WholeTheory}
 use Rattle.syn_app.specs.SpecText.{ExtendsSpec, HasInput, WholeSpec}
 use Rattle.syn_app.specs.DerivationText.{ExtendsDerivation, IsDerivationText, WholeDerivation}

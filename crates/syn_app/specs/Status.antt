@@ -1,4 +1,4 @@
--- The statuses that the program ends with: the number of each, and its text.
+-- For public contracts: the statuses that the program ends with: the number of each, and its text.
 use Rattle.std.specs.Prelude.{ℕ, List, ◌++◌, codes, decimal}
 use Rattle.syn_app.specs.declared.status.Which.{Which}
 use Rattle.syn_app.specs.declared.status.Which.TheVariants as which

@@ -1,12 +1,12 @@
--- Terms of lines: their texts, and the trees that they stand for. A term is the input's name, a number, a row variable,
+-- For public contracts: terms of lines: their texts, and the trees that they stand for. A term is the input's name, a number, a row variable,
 -- or `s(..)` round a term.
 use Rattle.std.specs.Prelude.{ℕ, zero, suc, ◌+◌, ◌<◌, ◌≤◌, ◌^◌, List, [], ◌∷◌, ◌++◌, codes, decimal}
 use Rattle.syn_term.specs.declared.sorts.Sort.TheVariants as sort
 use Rattle.syn_term.specs.declared.sorts.SymId.{SymId}
 use Rattle.syn_term.specs.Terms.{TermTree, application, variable_tree}
-use Rattle.syn_app.specs.declared.readings.Base.{Base}
-use Rattle.syn_app.specs.declared.readings.Base.TheVariants as base
-use Rattle.syn_app.specs.declared.readings.TermReading.{TermReading}
+use Rattle.syn_app.specs.declared.flat.Base.{Base}
+use Rattle.syn_app.specs.declared.flat.Base.TheVariants as base
+use Rattle.syn_app.specs.declared.flat.FlatTerm.{FlatTerm}
 
 -- `s(..)` n times round a text
 abbrev pub wrapped : ℕ → List ℕ → List ℕ
@@ -19,7 +19,7 @@ base_text input (base.Number n) = decimal n
 base_text input (base.RowVariable n) = codes "?" ++ decimal n
 
 -- the text of a term, given the input's name
-abbrev pub term_text : List ℕ → TermReading → List ℕ
+abbrev pub term_text : List ℕ → FlatTerm → List ℕ
 term_text input r = wrapped r.successors (base_text input r.base)
 
 -- the symbols of a specification with one input: `0`, `s`, the program symbol, the input
@@ -44,7 +44,7 @@ base_tree (base.Number n) = successors_of n (application zero_id [])
 base_tree (base.RowVariable n) = variable_tree (record { number = n; sort = sort.Nat })
 
 -- the tree that a term stands for
-abbrev pub term_tree : TermReading → TermTree
+abbrev pub term_tree : FlatTerm → TermTree
 term_tree r = successors_of r.successors (base_tree r.base)
 
 -- a base that a text may have: numbers up to 1,000; row variables from 1, of at most seven digits
@@ -65,5 +65,5 @@ base_size base.Input = 1
 base_size (base.Number n) = n + 1
 base_size (base.RowVariable n) = 1
 
-abbrev pub term_size : TermReading → ℕ
+abbrev pub term_size : FlatTerm → ℕ
 term_size r = r.successors + base_size r.base

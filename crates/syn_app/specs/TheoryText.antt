@@ -1,8 +1,9 @@
--- The text of a theory: the one line `theory NAME`.
+-- For public contracts: the text of a theory: the one line `theory NAME`.
 use Rattle.std.specs.Prelude.{◌≡◌, ℕ, List, [], ◌∷◌, codes, length}
 use Rattle.syn_term.specs.Names.{IsName}
 use Rattle.syn_app.specs.Trees.{TheoryTree}
-use Rattle.syn_app.specs.Lines.{in_words, IsCut}
+use Rattle.syn_app.specs.Lines.{in_words}
+use Rattle.syn_lex.specs.TextLines.{IsCut}
 
 abbrev pub theory_line : List ℕ → List ℕ
 theory_line name = in_words (codes "theory" ∷ name ∷ [])

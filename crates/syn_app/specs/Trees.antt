@@ -1,4 +1,4 @@
--- Theories, specifications and programs, as what texts stand for, with their tables of symbols.
+-- For public contracts: theories, specifications and programs, as what texts stand for, with their tables of symbols.
 use Rattle.std.specs.Prelude.{ℕ, ◌+◌, List, [], ◌∷◌, ◌++◌, Some, map, length}
 use Rattle.syn_term.specs.declared.sorts.Sort.{Sort}
 use Rattle.syn_term.specs.declared.sorts.Sym.{Sym}

@@ -1,5 +1,5 @@
--- Values, and the sorts that they are of.
-use Rattle.std.specs.Prelude.{Bool, List, [], ◌∷◌, nat_eq}
+-- For public contracts: values, and the sorts that they are of.
+use Rattle.std.specs.Prelude.{List, [], ◌∷◌}
 use Rattle.syn_term.specs.declared.sorts.Sort.{Sort}
 use Rattle.syn_term.specs.declared.sorts.Sort.TheVariants as sort
 use Rattle.syn_term.specs.Symbols.{SymbolTable}
@@ -17,7 +17,3 @@ OfSorts table [] [] = Unit {0}
 OfSorts table [] (s ∷ ss) = ⊥
 OfSorts table (v ∷ vs) [] = ⊥
 OfSorts table (v ∷ vs) (s ∷ ss) = OfSort table v s × OfSorts table vs ss
-
--- whether two values are one
-abbrev pub same_value : Value → Value → Bool
-same_value (Num m) (Num n) = nat_eq m n

@@ -1,4 +1,4 @@
--- The command lines: the words after the program's name, and the command that they are.
+-- For public contracts: the command lines: the words after the program's name, and the command that they are.
 use Rattle.std.specs.Prelude.{◌≡◌, ◌≢◌, ℕ, List, [], ◌∷◌, codes}
 use Rattle.syn_app.specs.declared.command.Command.{Command}
 use Rattle.syn_app.specs.declared.command.Command.TheVariants as command

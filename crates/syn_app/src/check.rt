@@ -5,16 +5,17 @@ ghost use Rattle.syn_term.specs.Names.{IsName};
 ghost use Rattle.syn_term.specs.Symbols.{MayAdd, first_symbols, with_symbol};
 ghost use Rattle.syn_term.specs.Terms.{TermTree};
 ghost use Rattle.syn_app.specs.Trees.{TheoryTree};
-ghost use Rattle.syn_app.specs.Checks.{EndsOtherwise, EndsWith, FailsCheck, IsProven, reading_names, reading_spec};
+ghost use Rattle.syn_app.specs.Checks.{IsProven};
+ghost use Rattle.syn_app.specs.inner.Checks.{EndsOtherwise, EndsWith, FailsCheck, flat_names, flat_spec};
 ghost use Rattle.syn_app.specs.DerivationText.{entry_of};
-ghost use Rattle.syn_app.specs.Printing.{nat_input_symbol, nat_program, nat_program_symbol, nat_program_symbols};
-ghost use Rattle.syn_app.specs.Shapes.{solved_goal};
+ghost use Rattle.syn_app.specs.inner.Printing.{nat_input_symbol, nat_program, nat_program_symbol, nat_program_symbols};
+ghost use Rattle.syn_app.specs.inner.Shapes.{solved_goal};
 ghost use Rattle.syn_app.specs.SpecText.{AreProgramNames, IsCondition};
 
-use crate::readings::{Row, RowReading};
+use crate::flat::{FlatRow, Row};
 use crate::replay::{CheckError, replay};
 use crate::rows::term_of;
-use crate::spec_text::SpecReading;
+use crate::spec_text::FlatSpec;
 use crate::trees::{Form, Out};
 use sqlite_items::Items;
 use std::alloc::Global;
@@ -56,12 +57,7 @@ fn add(syms: &mut Symbols, sym: Sym) -> Result<(), NoMemory>
 }
 
 /// Adds the program symbol and the input to `0` and `s`.
-fn add_names(
-    alloc: Global,
-    syms: &mut Symbols,
-    program: &str,
-    input: &str,
-) -> Result<(), NoMemory>
+fn add_names(alloc: Global, syms: &mut Symbols, program: &str, input: &str) -> Result<(), NoMemory>
     requires first { syms.old ≡ first_symbols }
     requires program { IsName program.now }
     requires input { IsName input.now }
@@ -118,13 +114,13 @@ fn solved_output(row: Row) -> Option<Term>
 pub(crate) fn check(
     alloc: Global,
     syms: &Symbols,
-    spec: &SpecReading<'_>,
-    rows: &[RowReading],
+    spec: &FlatSpec<'_>,
+    rows: &[FlatRow],
 ) -> Result<Term, CheckError>
-    requires names { AreProgramNames (reading_names spec.now) }
+    requires names { AreProgramNames (flat_names spec.now) }
     requires condition { IsCondition spec.now.term }
     requires symbols { syms.now ≡ nat_program_symbols spec.now.program.now spec.now.input.now }
-    ensures { MatchResult result (λ body. (theory : TheoryTree) → IsProven theory (reading_spec spec.now) (map entry_of rows.now) (nat_program spec.now.program.now spec.now.input.now body)) (FailsCheck (reading_spec spec.now) (map entry_of rows.now)) }
+    ensures { MatchResult result (λ body. (theory : TheoryTree) → IsProven theory (flat_spec spec.now) (map entry_of rows.now) (nat_program spec.now.program.now spec.now.input.now body)) (FailsCheck (flat_spec spec.now) (map entry_of rows.now)) }
 {
     let mut bank = Bank::new(alloc);
     let target = term_of(alloc, &mut bank, syms, spec.term)?;

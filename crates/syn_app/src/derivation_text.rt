@@ -4,27 +4,28 @@
 // extends none.
 ghost use Rattle.std.specs.Prelude.{◌≡◌, ◌↔◌, ◌<◌, ◌^◌, ◌++◌, ◌∷◌, [], List, ℕ, IsTrue, IfOk, MatchOption, MatchResult, decimal, drop, length, map, slice_index_or, take};
 ghost use Rattle.syn_term.specs.Names.{IsName};
-ghost use Rattle.syn_app.specs.declared.readings.FormReading.{FormReading};
-ghost use Rattle.syn_app.specs.declared.readings.RowReading.{RowReading};
-ghost use Rattle.syn_app.specs.declared.readings.Step.{Step};
-ghost use Rattle.syn_app.specs.declared.readings.TermReading.{TermReading};
+ghost use Rattle.syn_app.specs.declared.flat.FlatForm.{FlatForm};
+ghost use Rattle.syn_app.specs.declared.flat.FlatRow.{FlatRow};
+ghost use Rattle.syn_app.specs.declared.flat.Step.{Step};
+ghost use Rattle.syn_app.specs.declared.flat.FlatTerm.{FlatTerm};
 ghost use Rattle.syn_app.specs.DerivationText.{AreRows, ExtendsDerivation, IsRow, IsStep, WholeDerivation, first_line, form_tree, row_line, row_lines, row_tree};
 ghost use Rattle.syn_app.specs.Limits as limits;
 ghost use Rattle.syn_app.specs.Limits.{FitsForm, FitsRow, FitsTerm};
-ghost use Rattle.syn_app.specs.Readers.{HasParts, HasTerms, IsDerivationReading, IsTerm, Refuses, RefusesLines, row_text, with_form, with_step};
+ghost use Rattle.syn_app.specs.inner.Readers.{HasParts, HasTerms, IsFlatDerivation, IsTerm, Refuses, RefusesLines, row_text, with_form, with_step};
 ghost use Rattle.syn_app.specs.Terms.{term_text, term_tree};
 
-use crate::lines::{FileError, cut_lines, part_before, same, strip};
+use crate::flat::{FlatForm, FlatRow, FlatTerm, Step};
+use crate::lines::{part_before, same, strip};
 use crate::numbers::number_in;
-use crate::readings::{FormReading, RowReading, Step, TermReading};
 use crate::terms::{MOST_DEPTH, MOST_NODES, size_of, term_in};
 use itoa::Buffer;
 use std::alloc::Global;
+use syn_lex::{FileError, split_lines};
 use syn_term::NoMemory;
 
-fn term_before<'a>(text: &'a [u8], others: &[u8], input: &str) -> Option<(TermReading, &'a [u8])>
+fn term_before<'a>(text: &'a [u8], others: &[u8], input: &str) -> Option<(FlatTerm, &'a [u8])>
     requires { IsName input.now }
-    ensures { MatchOption result ((r : TermReading) (rest : List ℕ) → IsTerm r → ¬ (text.now ≡ term_text input.now r ++ 32 ∷ (others.now ++ rest))) (λ p. IsTerm p.0 × (text.now ≡ term_text input.now p.0 ++ 32 ∷ (others.now ++ p.1.now))) }
+    ensures { MatchOption result ((r : FlatTerm) (rest : List ℕ) → IsTerm r → ¬ (text.now ≡ term_text input.now r ++ 32 ∷ (others.now ++ rest))) (λ p. IsTerm p.0 × (text.now ≡ term_text input.now p.0 ++ 32 ∷ (others.now ++ p.1.now))) }
 {
     match part_before(text, b' ', others) {
         None => None,
@@ -53,25 +54,25 @@ fn step_before(text: &[u8]) -> Option<(Step, &[u8])>
     }
 }
 
-fn form_before<'a>(text: &'a [u8], input: &str) -> Option<(FormReading, &'a [u8])>
+fn form_before<'a>(text: &'a [u8], input: &str) -> Option<(FlatForm, &'a [u8])>
     requires { IsName input.now }
-    ensures { MatchOption result ((f : FormReading) (rest : List ℕ) → HasTerms f → ¬ (text.now ≡ with_form input.now f rest)) (λ p. HasTerms p.0 × (text.now ≡ with_form input.now p.0 p.1.now)) }
+    ensures { MatchOption result ((f : FlatForm) (rest : List ℕ) → HasTerms f → ¬ (text.now ≡ with_form input.now f rest)) (λ p. HasTerms p.0 × (text.now ≡ with_form input.now p.0 p.1.now)) }
 {
     if let Some(rest) = strip(text, b"true | ") {
-        return Some((FormReading::True, rest));
+        return Some((FlatForm::True, rest));
     }
     let Some((left, after_left)) = term_before(text, b"= ", input) else {
         return None;
     };
     match term_before(after_left, b"| ", input) {
         None => None,
-        Some((right, rest)) => Some((FormReading::Equal(left, right), rest)),
+        Some((right, rest)) => Some((FlatForm::Equal(left, right), rest)),
     }
 }
 
-fn row_after_number(text: &[u8], input: &str) -> Option<RowReading>
+fn row_after_number(text: &[u8], input: &str) -> Option<FlatRow>
     requires { IsName input.now }
-    ensures { MatchOption result ((r : RowReading) → HasParts r → ¬ (text.now ≡ row_text input.now r)) (λ r. HasParts r × (text.now ≡ row_text input.now r)) }
+    ensures { MatchOption result ((r : FlatRow) → HasParts r → ¬ (text.now ≡ row_text input.now r)) (λ r. HasParts r × (text.now ≡ row_text input.now r)) }
 {
     let Some((step, after_step)) = step_before(text) else {
         return None;
@@ -81,7 +82,7 @@ fn row_after_number(text: &[u8], input: &str) -> Option<RowReading>
     };
     match term_in(after_form, input) {
         None => None,
-        Some(out) => Some(RowReading { step, form, out }),
+        Some(out) => Some(FlatRow { step, form, out }),
     }
 }
 
@@ -95,36 +96,36 @@ fn after_number(line: &[u8], number: u64) -> Option<&[u8]>
     }
 }
 
-fn form_nodes(form: &FormReading) -> u64
+fn form_nodes(form: &FlatForm) -> u64
     ensures is { result ≡ limits.form_nodes (form_tree form.now) }
     ensures bound { result < 2 ^ 36 }
 {
     match form {
-        FormReading::True => 1,
-        FormReading::Equal(left, right) => 1 + size_of(left) + size_of(right),
+        FlatForm::True => 1,
+        FlatForm::Equal(left, right) => 1 + size_of(left) + size_of(right),
     }
 }
 
-fn form_depth(form: &FormReading) -> u64
+fn form_depth(form: &FlatForm) -> u64
     ensures { result ≡ limits.form_depth (form_tree form.now) }
 {
     match form {
-        FormReading::True => 1,
-        FormReading::Equal(left, right) => 1 + size_of(left).max(size_of(right)),
+        FlatForm::True => 1,
+        FlatForm::Equal(left, right) => 1 + size_of(left).max(size_of(right)),
     }
 }
 
 // Formula and output each have no more nodes than the row, and are no deeper.
-fn fits(row: &RowReading) -> bool
+fn fits(row: &FlatRow) -> bool
     ensures { IsTrue result ↔ (FitsForm (form_tree row.now.form) × FitsTerm (term_tree row.now.out) × FitsRow (row_tree row.now)) }
 {
     let out = size_of(&row.out);
     form_nodes(&row.form) + out <= MOST_NODES && form_depth(&row.form).max(out) <= MOST_DEPTH
 }
 
-fn row_in(line: &[u8], number: u64, input: &str) -> Option<RowReading>
+fn row_in(line: &[u8], number: u64, input: &str) -> Option<FlatRow>
     requires { IsName input.now }
-    ensures { MatchOption result ((r : RowReading) → IsRow r → ¬ (line.now ≡ row_line input.now number r)) (λ r. IsRow r × (line.now ≡ row_line input.now number r)) }
+    ensures { MatchOption result ((r : FlatRow) → IsRow r → ¬ (line.now ≡ row_line input.now number r)) (λ r. IsRow r × (line.now ≡ row_line input.now number r)) }
 {
     let Some(text) = after_number(line, number) else {
         return None;
@@ -135,7 +136,7 @@ fn row_in(line: &[u8], number: u64, input: &str) -> Option<RowReading>
     }
 }
 
-fn push(rows: &mut Vec<RowReading>, row: RowReading) -> Result<(), NoMemory>
+fn push(rows: &mut Vec<FlatRow>, row: FlatRow) -> Result<(), NoMemory>
     ensures { IfOk result (λ _. rows.new.items ≡ rows.old.items ++ row ∷ []) }
 {
     match rows.push(row) {
@@ -144,7 +145,7 @@ fn push(rows: &mut Vec<RowReading>, row: RowReading) -> Result<(), NoMemory>
     }
 }
 
-fn read_rows(alloc: Global, input: &str, lines: &[&[u8]]) -> Result<Vec<RowReading>, FileError>
+fn read_rows(alloc: Global, input: &str, lines: &[&[u8]]) -> Result<Vec<FlatRow>, FileError>
     requires name { IsName input.now }
     requires some { 0 < length lines.now }
     requires first { slice_index_or (map (λ line. line.now) lines.now) 0 [] ≡ first_line }
@@ -168,11 +169,11 @@ pub(crate) fn read_derivation(
     alloc: Global,
     input: &str,
     bytes: &[u8],
-) -> Result<Vec<RowReading>, FileError>
+) -> Result<Vec<FlatRow>, FileError>
     requires { IsName input.now }
-    ensures { MatchResult result (λ rows. IsDerivationReading input.now bytes.now rows.items) (Refuses (ExtendsDerivation input.now) WholeDerivation bytes.now) }
+    ensures { MatchResult result (λ rows. IsFlatDerivation input.now bytes.now rows.items) (Refuses (ExtendsDerivation input.now) WholeDerivation bytes.now) }
 {
-    let Ok(cut) = cut_lines(alloc, bytes) else {
+    let Ok(cut) = split_lines(alloc, bytes) else {
         return Err(FileError::NoMemory);
     };
     if !same(cut.line_at(0), b"derivation 1") {

@@ -5,14 +5,14 @@
 mod check;
 mod command;
 mod derivation_text;
+mod flat;
+mod judging;
 mod lines;
 mod numbers;
 mod printing;
-mod readings;
 mod replay;
 mod rows;
 mod spec_text;
-mod stages;
 mod status;
 mod terms;
 mod theory_text;
@@ -20,6 +20,6 @@ mod top;
 mod trees;
 
 pub use command::{Command, command_of};
-pub use readings::{Base, Entry, FormReading, Row, RowReading, Step, TermReading};
+pub use flat::{Base, Entry, FlatForm, FlatRow, FlatTerm, Row, Step};
 pub use status::{Status, Which, status_code, status_line};
 pub use top::synth;

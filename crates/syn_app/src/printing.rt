@@ -4,10 +4,12 @@
 ghost use Rattle.std.specs.Prelude.{◌≡◌, ◌++◌, ◌==◌, [], codes, decimal, if◌then◌else◌, string_bytes, IfOk, OnOk};
 ghost use Rattle.std.specs.Option.{option_map};
 ghost use Rattle.syn_term.specs.Symbols.{symbol_at};
-ghost use Rattle.syn_app.specs.ProgramText.{name_of, printed_program, printed_term};
+ghost use Rattle.syn_app.specs.ProgramText.{printed_program, printed_term};
+ghost use Rattle.syn_app.specs.inner.Printing.{name_of};
 ghost use Rattle.syn_app.specs.Trees.{TheoryTree};
-ghost use Rattle.syn_app.specs.Printing.{nat_program, nat_program_symbols, next_number, printing_of};
+ghost use Rattle.syn_app.specs.inner.Printing.{nat_program, nat_program_symbols, next_number, printing_of};
 
+use crate::terms::GREATEST_NUMBER;
 use itoa::Buffer;
 use std::alloc::Global;
 use syn_term::{Kind, NoMemory, Node, SymId, Symbols, Term};
@@ -82,7 +84,7 @@ fn next_number(number: Option<u32>) -> Option<u32>
     ensures { result ≡ next_number number }
 {
     match number {
-        Some(n) if n < 1000 => Some(n + 1),
+        Some(n) if n < GREATEST_NUMBER => Some(n + 1),
         _ => None,
     }
 }

@@ -9,9 +9,9 @@ ghost use Rattle.syn_term.specs.Terms.{bare};
 ghost use Rattle.syn_app.specs.DerivationText.{entry_of};
 ghost use Rattle.syn_app.specs.Replay.{row_at, simplified_rows};
 ghost use Rattle.syn_app.specs.Rows.{bare_form, bare_row};
-ghost use Rattle.syn_app.specs.Shapes.{AreShaped, FirstUnshaped, HasEquation, HasTexts, HaveShape, IsEquation, IsNextRow, IsOpen, RowAgrees, StepGives, row_variable, solved_goal};
+ghost use Rattle.syn_app.specs.inner.Shapes.{AreShaped, FirstUnshaped, HasEquation, HasTexts, HaveShape, IsEquation, IsNextRow, IsOpen, RowAgrees, StepGives, row_variable, solved_goal};
 
-use crate::readings::{Row, RowReading, Step};
+use crate::flat::{FlatRow, Row, Step};
 use crate::rows::{row_of, simplified};
 use crate::trees::{Form, Out};
 use sqlite_items::at;
@@ -130,7 +130,7 @@ fn follows(target: &Term, before: &[Row], step: Step, row: &Row) -> bool
     }
 }
 
-/// The row of the reading, simplified; None exactly where it doesn't follow from those before it.
+/// The row, simplified; None exactly where it doesn't follow from those before it.
 #[tactic(auto, using(crate::proofs::Growth::growth))]
 fn next_row(
     alloc: Global,
@@ -138,17 +138,17 @@ fn next_row(
     syms: &Symbols,
     target: &Term,
     before: &[Row],
-    reading: &RowReading,
+    flat: &FlatRow,
 ) -> Result<Option<Row>, NoMemory>
     requires table { HasTexts syms.now }
     requires target { Belongs bank.old target.now }
     requires shapes { HaveShape (bare target.now) (map bare_row before.now) }
-    ensures row { IfOk result (IsNextRow (bare target.now) (map bare_row before.now) reading.now) }
+    ensures row { IfOk result (IsNextRow (bare target.now) (map bare_row before.now) flat.now) }
     ensures extends { Extends bank.old bank.new }
 {
-    let row = row_of(alloc, bank, syms, reading)?;
+    let row = row_of(alloc, bank, syms, flat)?;
     let row = simplified(row);
-    if follows(target, before, reading.step, &row) {
+    if follows(target, before, flat.step, &row) {
         Ok(Some(row))
     } else {
         Ok(None)
@@ -169,7 +169,7 @@ pub(crate) fn replay(
     bank: &mut Bank,
     syms: &Symbols,
     target: &Term,
-    rows: &[RowReading],
+    rows: &[FlatRow],
 ) -> Result<Vec<Row>, CheckError>
     requires table { HasTexts syms.now }
     requires target { Belongs bank.old target.now }

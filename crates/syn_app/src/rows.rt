@@ -1,4 +1,4 @@
-// The rows that readings stand for, made by a bank, and their simplification.
+// The rows that flat ones stand for, made by a bank, and their simplification.
 ghost use Rattle.std.specs.Prelude.{◌≡◌, [], ◌∷◌, IfOk, Some};
 ghost use Rattle.syn_term.specs.Bank.{Belongs, Extends};
 ghost use Rattle.syn_term.specs.Terms.{application, bare, sort_of};
@@ -7,9 +7,9 @@ ghost use Rattle.syn_app.specs.Terms.{base_tree, succ_id, successors_of, term_tr
 ghost use Rattle.syn_app.specs.DerivationText.{form_tree, row_tree};
 ghost use Rattle.syn_app.specs.Rows as rows;
 ghost use Rattle.syn_app.specs.Rows.{bare_form, bare_row, simplified_row};
-ghost use Rattle.syn_app.specs.Shapes.{FormBelongs, HasTexts, IsLeaf, RowBelongs, SidesAgree};
+ghost use Rattle.syn_app.specs.inner.Shapes.{FormBelongs, HasTexts, IsLeaf, RowBelongs, SidesAgree};
 
-use crate::readings::{Base, FormReading, Row, RowReading, TermReading};
+use crate::flat::{Base, FlatForm, FlatRow, FlatTerm, Row};
 use crate::trees::{Form, Out};
 use std::alloc::Global;
 use syn_term::{Bank, NoMemory, Sort, SymId, Symbols, Term, Var};
@@ -100,39 +100,34 @@ fn base_term(alloc: Global, bank: &mut Bank, syms: &Symbols, base: Base) -> Resu
     }
 }
 
-/// The term of a reading.
+/// The tree of a term.
 #[tactic(auto, using(crate::proofs::Growth::growth))]
 pub(crate) fn term_of(
     alloc: Global,
     bank: &mut Bank,
     syms: &Symbols,
-    reading: TermReading,
+    flat: FlatTerm,
 ) -> Result<Term, NoMemory>
     requires table { HasTexts syms.now }
-    ensures tree { IfOk result (λ t. bare t ≡ term_tree reading) }
+    ensures tree { IfOk result (λ t. bare t ≡ term_tree flat) }
     ensures extends { Extends bank.old bank.new }
     ensures belongs { IfOk result (Belongs bank.new) }
 {
-    let base = base_term(alloc, bank, syms, reading.base)?;
-    successors(alloc, bank, syms, reading.successors, base)
+    let base = base_term(alloc, bank, syms, flat.base)?;
+    successors(alloc, bank, syms, flat.successors, base)
 }
 
-/// The formula of a reading.
+/// The tree of a formula.
 #[tactic(auto, using(crate::proofs::Growth::growth))]
-fn form_of(
-    alloc: Global,
-    bank: &mut Bank,
-    syms: &Symbols,
-    reading: FormReading,
-) -> Result<Form, NoMemory>
+fn form_of(alloc: Global, bank: &mut Bank, syms: &Symbols, flat: FlatForm) -> Result<Form, NoMemory>
     requires table { HasTexts syms.now }
-    ensures tree { IfOk result (λ f. bare_form f ≡ form_tree reading) }
+    ensures tree { IfOk result (λ f. bare_form f ≡ form_tree flat) }
     ensures extends { Extends bank.old bank.new }
     ensures belongs { IfOk result (FormBelongs bank.new) }
 {
-    match reading {
-        FormReading::True => Ok(Form::True),
-        FormReading::Equal(left, right) => {
+    match flat {
+        FlatForm::True => Ok(Form::True),
+        FlatForm::Equal(left, right) => {
             let left = term_of(alloc, bank, syms, left)?;
             let right = term_of(alloc, bank, syms, right)?;
             Ok(Form::Equal(left, right))
@@ -140,21 +135,21 @@ fn form_of(
     }
 }
 
-/// The row of a reading, as it is written.
+/// The row with its trees, as it is written.
 #[tactic(auto, using(crate::proofs::Growth::growth))]
 pub(crate) fn row_of(
     alloc: Global,
     bank: &mut Bank,
     syms: &Symbols,
-    reading: &RowReading,
+    flat: &FlatRow,
 ) -> Result<Row, NoMemory>
     requires table { HasTexts syms.now }
-    ensures tree { IfOk result (λ row. bare_row row ≡ row_tree reading.now) }
+    ensures tree { IfOk result (λ row. bare_row row ≡ row_tree flat.now) }
     ensures extends { Extends bank.old bank.new }
     ensures belongs { IfOk result (RowBelongs bank.new) }
 {
-    let form = form_of(alloc, bank, syms, reading.form)?;
-    let out = term_of(alloc, bank, syms, reading.out)?;
+    let form = form_of(alloc, bank, syms, flat.form)?;
+    let out = term_of(alloc, bank, syms, flat.out)?;
     Ok(Row {
         form,
         out: Out::Give(out),

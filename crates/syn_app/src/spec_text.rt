@@ -3,28 +3,29 @@
 // one reading at most; so the names of the second line are the ones that the third is read with.
 ghost use Rattle.std.specs.Prelude.{◌≡◌, ◌≢◌, ◌↔◌, ◌<◌, ◌++◌, ◌∷◌, List, ℕ, IsTrue, MatchOption, MatchResult, codes, false, map};
 ghost use Rattle.syn_term.specs.Names.{IsName, is_name_byte};
-ghost use Rattle.syn_app.specs.declared.readings.TermReading.{TermReading};
+ghost use Rattle.syn_app.specs.declared.flat.FlatTerm.{FlatTerm};
 ghost use Rattle.syn_app.specs.Limits.{FitsForm};
-ghost use Rattle.syn_app.specs.Lines.{IsCut};
-ghost use Rattle.syn_app.specs.Readers.{IsSpecReading, Refuses};
+ghost use Rattle.syn_lex.specs.TextLines.{IsCut};
+ghost use Rattle.syn_app.specs.inner.Readers.{IsFlatSpec, Refuses};
 ghost use Rattle.syn_app.specs.SpecText.{AreProgramNames, ExtendsSpec, IsCondition, ProgramNames, WholeSpec, ensures_line, ensures_of, program_line, spec_line};
 ghost use Rattle.syn_app.specs.Terms.{IsClosed};
 
-use crate::lines::{Cut, FileError, cut_lines, part_before, same, strip};
+use crate::flat::{Base, FlatTerm};
+use crate::lines::{part_before, same, strip};
 use crate::numbers::name_in;
-use crate::readings::{Base, TermReading};
 use crate::terms::{MOST_DEPTH, MOST_NODES, size_of, term_in};
 use std::alloc::Global;
+use syn_lex::{Cut, FileError, split_lines};
 use syn_term::NoMemory;
 
 /// A specification, as its text is read: the names are parts of the text.
 #[derive(Clone, Copy, Debug)]
-pub(crate) struct SpecReading<'a> {
+pub(crate) struct FlatSpec<'a> {
     pub(crate) name: &'a str,
     pub(crate) program: &'a str,
     pub(crate) input: &'a str,
     pub(crate) output: &'a str,
-    pub(crate) term: TermReading,
+    pub(crate) term: FlatTerm,
 }
 
 // The names of a program line.
@@ -103,7 +104,7 @@ fn is_closed(base: &Base) -> bool
 }
 
 // The equality has two nodes more than its term, and is one deeper.
-fn fits(term: &TermReading) -> bool
+fn fits(term: &FlatTerm) -> bool
     ensures { IsTrue result ↔ FitsForm (ensures_of term.now) }
 {
     let size = size_of(term);
@@ -122,9 +123,9 @@ fn condition_word<'a>(line: &'a [u8], output: &str) -> Option<&'a [u8]>
     }
 }
 
-fn condition_of(line: &[u8], header: &Header<'_>) -> Option<TermReading>
+fn condition_of(line: &[u8], header: &Header<'_>) -> Option<FlatTerm>
     requires { IsName header.now.input.now }
-    ensures { MatchOption result ((r : TermReading) → IsCondition r → ¬ (line.now ≡ ensures_line (record { program = header.now.program.now; input = header.now.input.now; output = header.now.output.now }) r)) (λ r. IsCondition r × (line.now ≡ ensures_line (record { program = header.now.program.now; input = header.now.input.now; output = header.now.output.now }) r)) }
+    ensures { MatchOption result ((r : FlatTerm) → IsCondition r → ¬ (line.now ≡ ensures_line (record { program = header.now.program.now; input = header.now.input.now; output = header.now.output.now }) r)) (λ r. IsCondition r × (line.now ≡ ensures_line (record { program = header.now.program.now; input = header.now.input.now; output = header.now.output.now }) r)) }
 {
     let Some(word) = condition_word(line, header.output) else {
         return None;
@@ -142,8 +143,8 @@ fn condition_of(line: &[u8], header: &Header<'_>) -> Option<TermReading>
 }
 
 // The specification that the cut is one of, or the number of the first bad line.
-fn spec_in<'a>(cut: &Cut<'a>) -> Result<SpecReading<'a>, FileError>
-    ensures { (bytes : List ℕ) → IsCut bytes (map (λ line. line.now) cut.now.lines.items) cut.now.rest.now → MatchResult result (λ s. IsSpecReading bytes s.name.now (record { program = s.program.now; input = s.input.now; output = s.output.now }) s.term) (Refuses ExtendsSpec WholeSpec bytes) }
+fn spec_in<'a>(cut: &Cut<'a>) -> Result<FlatSpec<'a>, FileError>
+    ensures { (bytes : List ℕ) → IsCut bytes (map (λ line. line.now) cut.now.lines.items) cut.now.rest.now → MatchResult result (λ s. IsFlatSpec bytes s.name.now (record { program = s.program.now; input = s.input.now; output = s.output.now }) s.term) (Refuses ExtendsSpec WholeSpec bytes) }
 {
     let Some(name) = spec_name(cut.line_at(0)) else {
         return Err(FileError::Bad(1));
@@ -157,7 +158,7 @@ fn spec_in<'a>(cut: &Cut<'a>) -> Result<SpecReading<'a>, FileError>
     if !cut.ends_after(3) {
         return Err(FileError::Bad(4));
     }
-    Ok(SpecReading {
+    Ok(FlatSpec {
         name,
         program: header.program,
         input: header.input,
@@ -167,10 +168,10 @@ fn spec_in<'a>(cut: &Cut<'a>) -> Result<SpecReading<'a>, FileError>
 }
 
 /// The specification that the bytes are the text of, or the number of the first bad line.
-pub(crate) fn read_spec(alloc: Global, bytes: &[u8]) -> Result<SpecReading<'_>, FileError>
-    ensures { MatchResult result (λ s. IsSpecReading bytes.now s.name.now (record { program = s.program.now; input = s.input.now; output = s.output.now }) s.term) (Refuses ExtendsSpec WholeSpec bytes.now) }
+pub(crate) fn read_spec(alloc: Global, bytes: &[u8]) -> Result<FlatSpec<'_>, FileError>
+    ensures { MatchResult result (λ s. IsFlatSpec bytes.now s.name.now (record { program = s.program.now; input = s.input.now; output = s.output.now }) s.term) (Refuses ExtendsSpec WholeSpec bytes.now) }
 {
-    match cut_lines(alloc, bytes) {
+    match split_lines(alloc, bytes) {
         Err(NoMemory) => Err(FileError::NoMemory),
         Ok(cut) => spec_in(&cut),
     }

@@ -4,15 +4,15 @@
 ghost use Rattle.std.specs.Prelude.{◌≡◌, ◌<◌, ◌≤◌, ◌^◌, List, ℕ, MatchOption};
 ghost use Rattle.syn_term.specs.Names.{IsName};
 ghost use Rattle.syn_term.specs.Terms.{depth_of, nodes};
-ghost use Rattle.syn_app.specs.declared.readings.Base.{Base};
-ghost use Rattle.syn_app.specs.declared.readings.TermReading.{TermReading};
-ghost use Rattle.syn_app.specs.Readers.{IsTerm};
+ghost use Rattle.syn_app.specs.declared.flat.Base.{Base};
+ghost use Rattle.syn_app.specs.declared.flat.FlatTerm.{FlatTerm};
+ghost use Rattle.syn_app.specs.inner.Readers.{IsTerm};
 ghost use Rattle.syn_app.specs.Terms as terms;
 ghost use Rattle.syn_app.specs.Terms.{IsBase, base_text, term_text, term_tree, wrapped};
 
+use crate::flat::{Base, FlatTerm};
 use crate::lines::{same, strip};
 use crate::numbers::number_between;
-use crate::readings::{Base, TermReading};
 
 /// The nodes that an expression, or a row, may have.
 pub(crate) const MOST_NODES: u64 = 4096;
@@ -23,7 +23,8 @@ pub(crate) const MOST_DEPTH: u64 = 1200;
 /// As many successors as an expression may have nodes; a word with more is no term of a line.
 const MOST_SUCCESSORS: u32 = 4096;
 
-const GREATEST_NUMBER: u32 = 1000;
+/// The greatest number that is written in digits.
+pub(crate) const GREATEST_NUMBER: u32 = 1000;
 
 const LAST_ROW_VARIABLE: u32 = 9_999_999;
 
@@ -70,14 +71,14 @@ fn base_in(text: &[u8], input: &str) -> Option<Base>
 }
 
 /// The term that the word is, over an input of this name, or `None` where it is no term.
-pub(crate) fn term_in(word: &[u8], input: &str) -> Option<TermReading>
+pub(crate) fn term_in(word: &[u8], input: &str) -> Option<FlatTerm>
     requires { IsName input.now }
-    ensures { MatchOption result ((r : TermReading) → IsTerm r → ¬ (word.now ≡ term_text input.now r)) (λ r. IsTerm r × (word.now ≡ term_text input.now r)) }
+    ensures { MatchOption result ((r : FlatTerm) → IsTerm r → ¬ (word.now ≡ term_text input.now r)) (λ r. IsTerm r × (word.now ≡ term_text input.now r)) }
 {
     let (successors, inner) = unwrapped(word);
     match base_in(inner, input) {
         None => None,
-        Some(base) => Some(TermReading { successors, base }),
+        Some(base) => Some(FlatTerm { successors, base }),
     }
 }
 
@@ -93,7 +94,7 @@ fn base_size(base: &Base) -> u64
 }
 
 /// The nodes of the term's tree, which is as deep as it has nodes.
-pub(crate) fn size_of(term: &TermReading) -> u64
+pub(crate) fn size_of(term: &FlatTerm) -> u64
     ensures nodes { result ≡ nodes (term_tree term.now) }
     ensures depth { result ≡ depth_of (term_tree term.now) }
     ensures bound { result < 2 ^ 34 }

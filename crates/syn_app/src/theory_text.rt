@@ -2,12 +2,13 @@
 // nothing; so that a line is missing and that it is wrong are one refusal.
 ghost use Rattle.std.specs.Prelude.{◌≡◌, List, ℕ, MatchOption, MatchResult};
 ghost use Rattle.syn_term.specs.Names.{IsName};
-ghost use Rattle.syn_app.specs.Readers.{Refuses};
+ghost use Rattle.syn_app.specs.inner.Readers.{Refuses};
 ghost use Rattle.syn_app.specs.TheoryText.{ExtendsTheory, IsTheoryText, WholeTheory, theory_line};
 
-use crate::lines::{FileError, cut_lines, strip};
+use crate::lines::strip;
 use crate::numbers::name_in;
 use std::alloc::Global;
+use syn_lex::{FileError, split_lines};
 
 fn theory_name(line: &[u8]) -> Option<&str>
     ensures { MatchOption result ((name : List ℕ) → IsName name → ¬ (line.now ≡ theory_line name)) (λ name. IsName name.now × (line.now ≡ theory_line name.now)) }
@@ -22,7 +23,7 @@ fn theory_name(line: &[u8]) -> Option<&str>
 pub(crate) fn read_theory(alloc: Global, bytes: &[u8]) -> Result<&str, FileError>
     ensures { MatchResult result (λ name. IsTheoryText bytes.now (record { name = name.now })) (Refuses ExtendsTheory WholeTheory bytes.now) }
 {
-    let Ok(cut) = cut_lines(alloc, bytes) else {
+    let Ok(cut) = split_lines(alloc, bytes) else {
         return Err(FileError::NoMemory);
     };
     let Some(name) = theory_name(cut.line_at(0)) else {

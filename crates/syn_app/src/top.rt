@@ -12,7 +12,7 @@ ghost use Rattle.syn_app.specs.Settled.{IsQuiet, Settles};
 ghost use Rattle.syn_app.specs.Words.{IsNoCheck};
 
 use crate::command::{Names, check_names};
-use crate::stages::{derivation_stage, judge_spec, load, theory_stage};
+use crate::judging::{check_derivation, check_theory, judge_spec, load};
 use crate::status::{Status, Which};
 use std::alloc::Global;
 use syn_outside::{Cabinet, Sink};
@@ -30,14 +30,14 @@ fn check_files<C: Cabinet, S: Sink>(
     ensures tells_reads { TellsReads result (C.read_faults cab.old) (C.read_faults cab.new) }
     ensures tells_puts { TellsPuts result (S.faults out.old) (S.faults out.new) }
 {
-    if let Err(status) = theory_stage(alloc, cab, names.theory) {
+    if let Err(status) = check_theory(alloc, cab, names.theory) {
         return status;
     }
     match load(alloc, cab, names.spec, Which::Spec) {
         Err(status) => status,
         Ok(bytes) => match judge_spec(alloc, bytes.as_slice()) {
             Err(status) => status,
-            Ok(spec) => derivation_stage(alloc, names.deriv, &spec, cab, out),
+            Ok(spec) => check_derivation(alloc, names.deriv, &spec, cab, out),
         },
     }
 }

@@ -3,6 +3,27 @@
 //! answer comes.
 #![tactic(auto)]
 
-
+#[cfg(test)]
+mod codes;
+#[cfg(test)]
+mod formulas;
+#[cfg(test)]
+mod lines;
+#[cfg(test)]
+mod names;
 #[cfg(test)]
 mod outside;
+#[cfg(test)]
+mod positions;
+#[cfg(test)]
+mod simplification;
+#[cfg(test)]
+mod sorts;
+#[cfg(test)]
+mod symbols;
+#[cfg(test)]
+mod terms;
+#[cfg(test)]
+mod tokens;
+#[cfg(test)]
+mod words;

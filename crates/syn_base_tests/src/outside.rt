@@ -10,12 +10,7 @@ use syn_outside::{
 };
 
 /// A cabinet of one file `a` of `length` bytes, whose call with the number `fail` fails.
-fn one_file(
-    alloc: Global,
-    length: usize,
-    step: usize,
-    fail: u64,
-) -> Result<MemCabinet, AllocError>
+fn one_file(alloc: Global, length: usize, step: usize, fail: u64) -> Result<MemCabinet, AllocError>
     requires { 0 < step }
 {
     let bytes = vec![in alloc; 7u8; length]?;
@@ -46,7 +41,10 @@ fn reads_whole_files(rt: HostRuntime) -> Result<(), Fail> {
     let alloc = rt.alloc();
     let fault = Err(ReadError::Fault);
     assert_eq!(rt; count_read(alloc, "a", 1000, 1, 0)?, Ok(1000));
-    assert_eq!(rt; count_read(alloc, "a", 1001, 4096, 0)?, Err(ReadError::TooLong));
+    assert_eq!(rt;
+        count_read(alloc, "a", 1001, 4096, 0)?,
+        Err(ReadError::TooLong)
+    );
     assert_eq!(rt; count_read(alloc, "a", 0, 8, 0)?, Ok(0));
     assert_eq!(rt; count_read(alloc, "a", 30, 8, 2)?, fault);
     assert_eq!(rt; count_read(alloc, "a", 30, 8, 6)?, Ok(30));

@@ -19,7 +19,7 @@ use crate::lookups::symbol_named;
 use crate::names::Inside;
 use sqlite_items::Items;
 use std::alloc::Global;
-use syn_form::{Binder, QForm, Quantifier, TermSyntax, are_of_one_sort, is_atom, sort_in};
+use syn_form::{Binder, QForm, Quantifier, TermSyntax, are_of_one_sort, is_atom};
 use syn_term::{Bank, NoMemory, Shared, SymId, Symbols, Term, Text};
 
 /// The terms that the syntax trees stand for; None where one stands for none.
@@ -99,7 +99,7 @@ fn equality(syms: &Symbols, s: Term, t: Term) -> Option<QForm>
     ensures tree { option_map bare_qform result ≡ elaboration.sorted_equality syms.now (bare s) (bare t) }
     ensures belongs { (b : Kept) → Belongs b s → Belongs b t → IfSome result (QFormBelongs b) }
 {
-    if are_of_one_sort(sort_in(syms, &s), sort_in(syms, &t)) {
+    if are_of_one_sort(s.sort_in(syms), t.sort_in(syms)) {
         Some(QForm::Equal(s, t))
     } else {
         None

@@ -7,8 +7,8 @@ use std::process::Abort;
 use std::test::Fail;
 use syn_expr::{ExprError, Scope, read_form, read_out, read_qform, read_term};
 use syn_form::{Binder, Form, Mono, Out, QForm};
-use syn_term::{Bank, NoMemory, Shared, Sort, SymId, Term, Text, Var, decimal_number};
 use syn_model::{Decl, DeclError, Theory};
+use syn_term::{Bank, NoMemory, Shared, Sort, SymId, Term, Text, Var, decimal_number};
 
 const NAT: Sort = Sort::Nat;
 

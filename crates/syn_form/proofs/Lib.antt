@@ -31,3 +31,11 @@ pub mod FormedForms
 pub mod Cuts
 pub mod FreeNames
 pub mod PlainTrees
+pub mod ReplacingParts
+pub mod ReplacingCases
+pub mod ReplacingAll
+pub mod ReplacingEnds
+pub mod InputTerms
+pub mod MadeTerms
+pub mod OnTerms
+pub mod PutInputs

@@ -4,7 +4,7 @@ use Rattle.syn_term.proofs.Same.{same_code-to, same_code-from}
 use Rattle.syn_term.specs.Same.{same_code}
 use Rattle.syn_form.specs.contracts.trees.Form as form_code
 use Rattle.syn_form.specs.contracts.trees.Out as out_code
-use Rattle.syn_form.specs.Same.{TellsForms, TellsOuts, same_form, same_out}
+use Rattle.syn_form.specs.Same.{SameFormMeansEqual, SameOutMeansEqual, same_form, same_out}
 use Rattle.syn_form.specs.Trees.{FormTree, OutTree, bare_form, bare_out}
 
 pub same_form-to : (f g : FormTree) → same_form f g ≡ true → bare_form f ≡ bare_form g
@@ -24,8 +24,8 @@ unfolding same_out
 same_out-from o p e = ap (λ (z : OutTree). same_code (out_code.the_row.coded.code (bare_out o)) (out_code.the_row.coded.code z)) (sym e) ∙ same_code-from (out_code.the_row.coded.code (bare_out o))
 
 -- so each test is passed exactly where the two are equal with places left out
-pub tells_forms : TellsForms
-tells_forms f g = (same_form-to f g, same_form-from f g)
+pub same_form_means_equal : SameFormMeansEqual
+same_form_means_equal f g = (same_form-to f g, same_form-from f g)
 
-pub tells_outs : TellsOuts
-tells_outs o p = (same_out-to o p, same_out-from o p)
+pub same_out_means_equal : SameOutMeansEqual
+same_out_means_equal o p = (same_out-to o p, same_out-from o p)

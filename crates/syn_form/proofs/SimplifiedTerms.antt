@@ -44,7 +44,7 @@ form_terms-deciding conjunction = fold-False form_terms_step
 form_terms-deciding disjunction = fold-True form_terms_step
 
 -- nothing stands in a formula without terms
-no_terms : (f : FormTree) (ts : List TermTree) → form_terms f ≡ [] → Among (form_terms f) ts
+pub no_terms : (f : FormTree) (ts : List TermTree) → form_terms f ≡ [] → Among (form_terms f) ts
 no_terms f ts e t c = absurd (none_in_nil t (Contains-along (form_terms f) [] t e c))
 
 opened_case : (j : Junction) (f : FormTree) (gs : List FormTree) → Opened j f gs → flat_map form_terms gs ≡ form_terms f

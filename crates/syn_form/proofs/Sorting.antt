@@ -17,10 +17,9 @@ use Rattle.syn_term.specs.declared.term.Node.TheVariants as node
 use Rattle.syn_term.specs.declared.term.Node.TheViews as view
 use Rattle.syn_term.specs.declared.term.Node.TheViews.{the_lemmas}
 use Rattle.syn_term.specs.Symbols.{SymbolTable, symbol_at}
-use Rattle.syn_term.specs.Terms.{TermTree, IsApplication, bare, bare_step, nowhere, sort_of, head_of}
+use Rattle.syn_term.specs.Terms.{TermTree, IsApplication, bare, bare_step, nowhere, sort_of}
 use Rattle.syn_term.proofs.Trees.{bare-App, by_terms, fold-Var}
 use Rattle.syn_form.specs.Plain.{IsAtom, result_of}
-use Rattle.syn_form.specs.inner.Heads.{head_sort}
 use Rattle.syn_form.specs.Sorts.{same_sort, is_of_sort, are_of_sorts, is_relation, makes_term, makes_atom}
 
 same_sort_to : (r s : Sort) → same_sort r s ≡ true → r ≡ s
@@ -129,27 +128,13 @@ module _ (table : SymbolTable) (f : SymId) (args : List TermTree) where
   pub atom_decided : IsTrue (makes_atom table f args) ↔ IsAtom table f args
   atom_decided = (atom_of, makes_atom_of)
 
-sort_of-application : (table : SymbolTable) (p : Place) (f : SymId) (xs : List Node) → sort_of table (view.App p f xs) ≡ result_of table f
+pub sort_of-application : (table : SymbolTable) (p : Place) (f : SymId) (xs : List Node) → sort_of table (view.App p f xs) ≡ result_of table f
 sort_of-application table p f xs = let e : out-Node (view.App p f xs) ≡ Node-F.App p f xs = search (rules, the_lemmas) in rw e refl
 
-sort_of-variable : (table : SymbolTable) (p : Place) (v : Var) → sort_of table (node.Var p v) ≡ Some v.sort
+pub sort_of-variable : (table : SymbolTable) (p : Place) (v : Var) → sort_of table (node.Var p v) ≡ Some v.sort
 sort_of-variable table p v = let e : out-Node (node.Var p v) ≡ Node-F.Var p v = search (rules, the_lemmas) in rw e refl
 
 module _ (table : SymbolTable) where
-  abbrev SortOfHead : TermTree → Type 0
-  SortOfHead t = head_sort table (head_of t) ≡ sort_of table t
-
-  head_step : (y : Node-F ((t : Node) × SortOfHead t)) → SortOfHead (roll-Node (map-Node ((t : Node) × SortOfHead t) Node (λ e. e.0) y))
-  unfolding roll-Node roll
-  head_step (Node-F.Var p v) = let e : out-Node (node.Var p v) ≡ Node-F.Var p v = search (rules, the_lemmas) in rw e refl
-  head_step (Node-F.App p f ys) =
-      let xs = map (λ (e : (t : Node) × SortOfHead t). e.0) ys in
-      let e : out-Node (view.App p f xs) ≡ Node-F.App p f xs = search (rules, the_lemmas) in rw e refl
-
-  -- the sort of a term is that of what stands at its top
-  pub sort_from_head : (t : TermTree) → head_sort table (head_of t) ≡ sort_of table t
-  sort_from_head = by_terms SortOfHead head_step
-
   abbrev SameSort : TermTree → Type 0
   SameSort t = sort_of table (bare t) ≡ sort_of table t
 

@@ -32,7 +32,7 @@ use Rattle.syn_form.specs.Sorts.{makes_term, makes_atom, are_of_one_sort}
 use Rattle.syn_form.specs.Trees.{FormTree, OutTree, QFormTree}
 use Rattle.syn_form.specs.Quantified.{unquantified}
 use Rattle.syn_form.specs.Plain.{given_sort}
-use Rattle.syn_form.specs.Scopes.{Named, TextScope, with_name}
+use Rattle.syn_form.specs.Scopes.{Named, TextScope, largest_numeral, with_name}
 
 -- the variable with the name, the innermost where several have it
 abbrev pub var_named : List Named → List ℕ → Option Var
@@ -56,9 +56,9 @@ abbrev pub successors : SymbolTable → ℕ → Option TermTree
 successors table zero = option_and_then (sorted_application table []) (symbol_named table (codes "0"))
 successors table (suc k) = option_and_then (λ t. option_and_then (sorted_application table (t ∷ [])) (symbol_named table (codes "s"))) (successors table k)
 
--- a number up to 1,000 is so many times `s` over `0`
+-- a number up to the largest numeral is so many times `s` over `0`
 abbrev pub number_tree : SymbolTable → ℕ → Option TermTree
-number_tree table k = if nat_lt 1000 k then None else successors table k
+number_tree table k = if nat_lt largest_numeral k then None else successors table k
 
 -- the sort that is written behind a row variable, `nat` where none is
 abbrev pub written_sort : SymbolTable → Option (List ℕ) → Option Sort

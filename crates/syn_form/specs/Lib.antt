@@ -15,4 +15,8 @@ pub mod Lists
 pub mod Quantified
 pub mod Elaboration
 pub mod Texts
+pub mod Replacing
+pub mod ReplacingLaws
+pub mod Inputs
+pub mod InputLaws
 pub mod inner

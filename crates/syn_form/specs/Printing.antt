@@ -19,7 +19,7 @@ use Rattle.syn_form.specs.declared.trees.QForm.TheOpen.{QForm-F}
 use Rattle.syn_form.specs.declared.trees.Out.{fold-Out}
 use Rattle.syn_form.specs.declared.trees.Out.TheOpen.{Out-F}
 use Rattle.syn_form.specs.Trees.{FormTree, QFormTree, OutTree}
-use Rattle.syn_form.specs.Scopes.{Named, TextScope, with_name}
+use Rattle.syn_form.specs.Scopes.{Named, TextScope, largest_numeral, with_name}
 
 -- the text of a term, and the number that the text is, where it is one
 pub record Printed : Type 0 where
@@ -47,10 +47,10 @@ applied_printed name ps = record { text = applied_text name ps; number = None }
 abbrev pub number_printed : ℕ → Printed
 number_printed n = record { text = decimal n; number = Some n }
 
--- the successor of a number up to 999 is the next number; any other is `s(..)`
+-- the successor of a number below the largest numeral is the next number; any other is `s(..)`
 abbrev pub successor_printed : List ℕ → Printed → Option ℕ → Printed
 successor_printed name p None = applied_printed name (p ∷ [])
-successor_printed name p (Some n) = if nat_lt n 1000 then number_printed (n + 1) else applied_printed name (p ∷ [])
+successor_printed name p (Some n) = if nat_lt n largest_numeral then number_printed (n + 1) else applied_printed name (p ∷ [])
 
 abbrev pub kind_printed : Kind → List ℕ → List Printed → Printed
 kind_printed kind.Zero name [] = number_printed 0
@@ -91,7 +91,7 @@ print_step scope (Node-F.App place f args) = symbol_printed (symbol_at scope.tab
 abbrev pub printing_of : TextScope → TermTree → Printed
 printing_of scope = fold-Node Printed (print_step scope)
 
--- the largest subterm that is k times `s` over `0` prints as the number k up to 1,000; above, as `s(..)` over 1000
+-- the largest subterm that is k times `s` over `0` prints as the number k up to the largest numeral; above, as `s(..)` over that
 abbrev pub printed_term : TextScope → TermTree → List ℕ
 printed_term scope t = (printing_of scope t).text
 

@@ -28,8 +28,8 @@ unfolding OfOneBank
 OfOneBank-to terms one = one
 
 -- two trees are one exactly where they are equal with places left out
-abbrev pub TellsForms : Type 0
-TellsForms = (f g : FormTree) → IsTrue (same_form f g) ↔ (bare_form f ≡ bare_form g)
+abbrev pub SameFormMeansEqual : Type 0
+SameFormMeansEqual = (f g : FormTree) → IsTrue (same_form f g) ↔ (bare_form f ≡ bare_form g)
 
-abbrev pub TellsOuts : Type 0
-TellsOuts = (o p : OutTree) → IsTrue (same_out o p) ↔ (bare_out o ≡ bare_out p)
+abbrev pub SameOutMeansEqual : Type 0
+SameOutMeansEqual = (o p : OutTree) → IsTrue (same_out o p) ↔ (bare_out o ≡ bare_out p)

@@ -3,6 +3,10 @@ use Rattle.std.specs.Prelude.{ℕ, Bool, List, ◌∷◌}
 use Rattle.syn_term.specs.declared.sorts.Var.{Var}
 use Rattle.syn_term.specs.Symbols.{SymbolTable}
 
+-- the greatest number that stands for a term by itself, as so many times `s` over `0`
+abbrev pub largest_numeral : ℕ
+largest_numeral = 1000
+
 -- a variable with the name that it is written with
 pub record Named : Type 0 where
   pub text : List ℕ

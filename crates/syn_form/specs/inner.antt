@@ -1,4 +1,3 @@
 pub mod Joining
 pub mod NotedSorts
-pub mod Heads
 pub mod BinderNumbers

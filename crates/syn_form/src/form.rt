@@ -3,7 +3,7 @@ ghost use Rattle.std.specs.Prelude.{◌≡◌, ◌↔◌, ◌+◌, ◌++◌, max
 ghost use Rattle.std.specs.Option.{option_map};
 ghost use Rattle.syn_term.specs.Terms.{bare, depth_of, greatest, nodes};
 ghost use Rattle.syn_form.specs.Positions.{formula, part_at, parts_of, at_position, seen, term};
-ghost use Rattle.syn_form.specs.Same.{OfOneBank, TellsForms};
+ghost use Rattle.syn_form.specs.Same.{OfOneBank, SameFormMeansEqual};
 ghost use Rattle.syn_form.specs.Trees.{all_of, bare_form, form_depth, form_nodes, form_terms};
 
 use crate::trees::{Form, Part};
@@ -163,11 +163,11 @@ impl Form {
 
     /// Whether the two are one tree. It asks that their terms are of one bank. The law says what the
     /// truth value by which definitions decide means.
-    #[tactic(auto, using(crate::proofs::Same::tells_forms))]
+    #[tactic(auto, using(crate::proofs::Same::same_form_means_equal))]
     pub fn same(&self, other: &Form) -> bool
         requires { OfOneBank (form_terms self.now ++ form_terms other.now) }
-        ensures tree { IsTrue result ↔ (bare_form self.now ≡ bare_form other.now) }
-        ensures law { TellsForms }
+        ensures same { IsTrue result ↔ (bare_form self.now ≡ bare_form other.now) }
+        ensures law { SameFormMeansEqual }
     {
         self.is_one(other)
     }

@@ -9,6 +9,9 @@ use crate::terms::{is_formed_atom, is_formed_equality, is_sorted};
 use crate::trees::{Form, Out};
 use syn_term::Symbols;
 
+/// So many members has a chain at least.
+pub(crate) const LEAST_MEMBERS: usize = 2;
+
 /// Whether each atom of the formula is a relation or order of its sorts, the sides of each equality
 /// have one sort, and chains have two members.
 #[cycle(forms)]
@@ -35,7 +38,7 @@ fn is_formed_chain(syms: &Symbols, all: &[Form]) -> bool
             return false;
         }
     }
-    all.len() >= 2
+    all.len() >= LEAST_MEMBERS
 }
 
 /// Whether the outputs give terms of one sort.

@@ -7,11 +7,14 @@
 mod binders;
 mod form;
 mod formed;
+mod inputs;
 mod joins;
 mod numbers;
 mod output;
 mod plain;
+mod qform;
 mod quantified;
+mod replacing;
 mod signs;
 mod simplifying;
 mod sorts;
@@ -21,11 +24,13 @@ mod trees;
 mod vars;
 
 pub use formed::{is_formed_form, is_formed_out};
+pub use inputs::put_inputs;
 pub use plain::{is_plain_form, is_plain_out, is_plain_qform};
 pub use quantified::is_formed_qform;
+pub use replacing::replace_all;
 pub use signs::polarity;
 pub use simplifying::{simplify, simplify_out};
-pub use sorts::{are_of_one_sort, given_sort, have_sorts, is_atom, sort_in};
+pub use sorts::{are_of_one_sort, given_sort, is_atom};
 pub use syntax::{
     BinderSyntax, FormSyntax, HeadName, Lexeme, Mark, OutSyntax, Quantifier, TermSyntax,
 };

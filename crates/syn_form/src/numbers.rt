@@ -6,6 +6,9 @@ ghost use Rattle.syn_form.specs.inner.BinderNumbers.{AreFrom};
 
 use crate::trees::{Binder, QForm};
 
+/// The number of the first binder of a formula.
+const FIRST_NUMBER: u64 = 1;
+
 /// The number after that of the binder, None where it has another number.
 fn after_binder(b: &Binder, next: u64) -> Option<u64>
     ensures { MatchOption result (b.now.var.number ≡ next → ⊥) (λ n. (n ≡ next + 1) × (b.now.var.number ≡ next)) }
@@ -48,5 +51,5 @@ fn after_qforms(all: &[QForm], first: u64) -> Option<u64>
 pub(crate) fn is_numbered(f: &QForm) -> bool
     ensures { IsTrue result ↔ IsNumbered f.now }
 {
-    after_qform(f, 1).is_some()
+    after_qform(f, FIRST_NUMBER).is_some()
 }

@@ -1,6 +1,6 @@
 // The calls on outputs.
 ghost use Rattle.std.specs.Prelude.{◌≡◌, ◌↔◌, ◌+◌, ◌++◌, min, IfOk, IsTrue};
-ghost use Rattle.syn_form.specs.Same.{OfOneBank, TellsOuts};
+ghost use Rattle.syn_form.specs.Same.{OfOneBank, SameOutMeansEqual};
 ghost use Rattle.syn_form.specs.Trees.{bare_out, out_depth, out_nodes, out_terms};
 
 use crate::form::greater;
@@ -61,11 +61,11 @@ impl Out {
 
     /// Whether the two are one tree. It asks that their terms are of one bank. The law says what the
     /// truth value by which definitions decide means.
-    #[tactic(auto, using(crate::proofs::Same::tells_outs))]
+    #[tactic(auto, using(crate::proofs::Same::same_out_means_equal))]
     pub fn same(&self, other: &Out) -> bool
         requires { OfOneBank (out_terms self.now ++ out_terms other.now) }
-        ensures tree { IsTrue result ↔ (bare_out self.now ≡ bare_out other.now) }
-        ensures law { TellsOuts }
+        ensures same { IsTrue result ↔ (bare_out self.now ≡ bare_out other.now) }
+        ensures law { SameOutMeansEqual }
     {
         self.is_one(other)
     }

@@ -3,6 +3,7 @@
 ghost use Rattle.std.specs.Prelude.{◌↔◌, ◌≤◌, All, IsTrue, length};
 ghost use Rattle.syn_form.specs.PlainQuantified.{IsFormedQ};
 
+use crate::formed::LEAST_MEMBERS;
 use crate::terms::{is_formed_atom, is_formed_equality};
 use crate::trees::QForm;
 use syn_term::Symbols;
@@ -34,5 +35,5 @@ fn is_formed_qchain(syms: &Symbols, all: &[QForm]) -> bool
             return false;
         }
     }
-    all.len() >= 2
+    all.len() >= LEAST_MEMBERS
 }

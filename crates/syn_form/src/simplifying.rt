@@ -98,7 +98,9 @@ fn simple_negation(alloc: Global, part: &Form) -> Result<Form, NoMemory>
     ensures { IfOk result (λ g. g ≡ rules.negated (simplified_form part.now)) }
 {
     let part = simple(alloc, part)?;
-    negated(alloc, &part)
+    let result = negated(alloc, &part);
+    drop(part);
+    result
 }
 
 /// The implication, each side first.
@@ -109,7 +111,12 @@ fn simple_implication(alloc: Global, a: &Form, b: &Form) -> Result<Form, NoMemor
 {
     let a = simple(alloc, a)?;
     match simple(alloc, b) {
-        Ok(b) => implied(alloc, &a, &b),
+        Ok(b) => {
+            let result = implied(alloc, &a, &b);
+            drop(a);
+            drop(b);
+            result
+        }
         other => {
             drop(a);
             other

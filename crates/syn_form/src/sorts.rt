@@ -1,36 +1,14 @@
 // The sorts of terms, and which symbols stand before which terms in atoms.
-ghost use Rattle.std.specs.Prelude.{◌≡◌, ◌↔◌, ◌⊎◌, map, IsTrue, Some};
+ghost use Rattle.std.specs.Prelude.{◌≡◌, ◌↔◌, ◌⊎◌, IsTrue};
 ghost use Rattle.syn_term.specs.Symbols.{IsSort};
-ghost use Rattle.syn_term.specs.Terms.{IsApplication, sort_of};
+ghost use Rattle.syn_term.specs.Terms.{IsApplication};
 ghost use Rattle.syn_term.specs.declared.sorts.Kind.TheVariants as kinds;
 ghost use Rattle.syn_form.specs.Plain as plain;
 ghost use Rattle.syn_form.specs.Plain.{IsAtom, IsKnownSort, result_of};
 ghost use Rattle.syn_form.specs.Sorts as sorts;
-ghost use Rattle.syn_form.specs.inner.Heads.{head_sort};
 
 use crate::trees::Out;
-use syn_term::{Head, Kind, Sort, SymId, Symbols, Term};
-
-/// The sort of what stands at the top of a term, None where its symbol isn't in the table or has no
-/// result.
-fn sort_of_head(syms: &Symbols, head: Head) -> Option<Sort>
-    ensures { result ≡ head_sort syms.now head }
-{
-    match head {
-        Head::Var(v) => Some(v.sort),
-        Head::Sym(f) => match syms.get(f) {
-            None => None,
-            Some(sym) => sym.result,
-        },
-    }
-}
-
-/// The sort of the term, None where its symbol isn't in the table or has no result.
-pub fn sort_in(syms: &Symbols, t: &Term) -> Option<Sort>
-    ensures { result ≡ sort_of syms.now t.now }
-{
-    sort_of_head(syms, t.head())
-}
+use syn_term::{Kind, Sort, SymId, Symbols, Term, have_sorts};
 
 /// Whether the two sorts are one.
 pub(crate) fn same_sort(a: Sort, b: Sort) -> bool
@@ -58,29 +36,6 @@ fn is_relation(kind: Kind) -> bool
     ensures { IsTrue result ↔ (kind ≡ kinds.Rel) ⊎ (kind ≡ kinds.Order) }
 {
     matches!(kind, Kind::Rel | Kind::Order)
-}
-
-/// Whether the term has this sort.
-fn has_sort(syms: &Symbols, t: &Term, sort: Sort) -> bool
-    ensures { IsTrue result ↔ (sort_of syms.now t.now ≡ Some sort) }
-{
-    sort_in(syms, t) == Some(sort)
-}
-
-/// Whether the terms have these sorts, one for one.
-pub fn have_sorts(syms: &Symbols, terms: &[Term], sorts: &[Sort]) -> bool
-    ensures { IsTrue result ↔ (map (sort_of syms.now) terms.now ≡ map Some sorts.now) }
-{
-    if terms.len() != sorts.len() {
-        return false;
-    }
-    for i in 0..terms.len() {
-        let sort = sorts[i];
-        if !has_sort(syms, &terms[i], sort) {
-            return false;
-        }
-    }
-    true
 }
 
 /// Whether the symbol may be applied to the terms.
@@ -142,7 +97,7 @@ pub fn given_sort(syms: &Symbols, o: &Out) -> Option<Sort>
     ensures { result ≡ plain.given_sort syms.now o.now }
 {
     match o {
-        Out::Give(t) => sort_in(syms, t),
+        Out::Give(t) => t.sort_in(syms),
         Out::If(_, u, _) => given_sort(syms, u.get()),
     }
 }

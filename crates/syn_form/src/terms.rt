@@ -4,7 +4,7 @@ ghost use Rattle.std.specs.Prelude.{◌≡◌, ◌↔◌, All, IsTrue};
 ghost use Rattle.syn_term.specs.Terms.{sort_of};
 ghost use Rattle.syn_form.specs.Plain.{IsAtom, IsSorted};
 
-use crate::sorts::{is_atom, is_sort, makes_sorted, sort_in};
+use crate::sorts::{is_atom, is_sort, makes_sorted};
 use syn_term::{Node, SymId, Symbols, Term};
 
 /// Whether each symbol of the term has arguments of its sorts, and each subterm a sort of the table.
@@ -44,5 +44,5 @@ pub(crate) fn is_formed_atom(syms: &Symbols, r: SymId, args: &[Term]) -> bool
 pub(crate) fn is_formed_equality(syms: &Symbols, s: &Term, t: &Term) -> bool
     ensures { IsTrue result ↔ IsSorted syms.now s.now × IsSorted syms.now t.now × (sort_of syms.now s.now ≡ sort_of syms.now t.now) }
 {
-    is_sorted(syms, s) && is_sorted(syms, t) && sort_in(syms, s) == sort_in(syms, t)
+    is_sorted(syms, s) && is_sorted(syms, t) && s.sort_in(syms) == t.sort_in(syms)
 }

@@ -1,17 +1,20 @@
 -- What the scanner answers, said by the grammar of tokens alone.
-use Rattle.std.proofs.Common.{◌≡◌, ℕ, ◌+◌, ◌-◌, ◌<◌, ◌≤◌, ◌⊎◌, inl, inr, List, [], ◌∷◌, Result, Ok, Err, MatchResult, length, get_or, take, drop, refl, sym, ◌∙◌, ap, subst, arith, All}
+use Rattle.std.proofs.Common.{◌≡◌, ℕ, ◌+◌, ◌-◌, ◌<◌, ◌≤◌, ◌⊎◌, inl, inr, Bool, cond, List, [], ◌∷◌, Result, Ok, Err, MatchResult, length, get_or, take, drop, refl, sym, ◌∙◌, ap, subst, arith, true≢false, All}
 use Rattle.std.proofs.lemmas.List.{length-drop, get_or-drop, take_all}
 use Rattle.std.proofs.lemmas.List.Elements.{All-nil, All-cons}
-use Rattle.syn_term.specs.Tokens.{over, bad, token, starts, is_blank, comment_len, BeginsNothing}
+use Rattle.syn_term.specs.Tokens.{over, bad, token, starts, is_blank, comment, comment_len, BeginsNothing}
 use Rattle.syn_term.proofs.BeginsCases.{over_token, bad_token, over_gap, bad_gap, over_bad, bad_same}
 use Rattle.syn_term.proofs.TokenLaws.{is_longest}
 use Rattle.syn_term.proofs.WholeTokens.{is_whole}
+use Rattle.syn_term.proofs.Passes.{eq_is}
+use Rattle.syn_term.proofs.Accounts.{whole_kinded, token_starts, blank_starts}
 use Rattle.syn_term.proofs.StartCases.{StartCase, at_end, at_blank, at_comment, at_token, at_nothing, start_case, comment_over, comment_bad, gap_blank}
 use Rattle.syn_lex.specs.declared.token.Token.{Token}
 use Rattle.syn_lex.specs.declared.token.LexError.{LexError}
 use Rattle.syn_lex.specs.declared.token.LexError.TheVariants as error
-use Rattle.syn_lex.specs.Lexing.{Blank, Spans, Lexed, Stuck, Refused, IsLongestToken, Blanks, Stand, IsCommentText, IsComment, IsBrokenComment, IsTokens, IsFirstBadByte, Faulty}
-use Rattle.syn_lex.proofs.Comments.{comment_text, comment_longest}
+use Rattle.syn_lex.specs.Lexing.{Blank, Spans, Lexed, Stuck, Refused, IsLongestToken, Blanks, Stand, IsCommentText, IsComment, IsBrokenComment, IsTokens, IsFirstBadByte, Faulty, IsAccount}
+use Rattle.syn_lex.proofs.Comments.{comment_text, comment_longest, comment_within}
+use Rattle.syn_lex.proofs.TokenSteps.{starts_none}
 
 blanks : (line : List ℕ) (at end : ℕ) → Blank line at end → Blanks line at end
 blanks line at end h q lo hi =
@@ -104,3 +107,37 @@ all_longest line at (t ∷ ts) end s = All-cons (IsLongestToken line) t ts (long
 
 pub lexed_longest : (line : List ℕ) (ts : List Token) → Lexed line ts → All (IsLongestToken line) ts
 lexed_longest line ts h = all_longest line 0 ts h.0 h.1
+
+-- where nothing is left or a comment, the line is over
+whole_comment : (rest : List ℕ) (n : ℕ) → n ≡ length rest → comment rest n ≡ over
+whole_comment rest n e = ap (λ (z : Bool). cond z over (bad n)) (eq_is n (length rest) e)
+
+comment_starts : (rest : List ℕ) → IsComment rest → starts rest ≡ over
+comment_starts rest c = by (start_case rest)
+  where
+    all : length rest ≤ comment_len rest → comment_len rest ≤ length rest → comment_len rest ≡ length rest
+    all lo hi = omega (arith, lo, hi)
+
+    by : StartCase rest → starts rest ≡ over
+    by (at_end n e) = e
+    by (at_blank b e) = absurd (true≢false (sym b ∙ ap is_blank c.begins))
+    by (at_comment f e) =
+        let whole : take (length rest) rest ≡ rest = take_all (length rest) rest (omega arith) in
+        let most : length rest ≤ comment_len rest = comment_longest rest (length rest) (omega arith) (subst IsCommentText (sym whole) c.text) in
+        e ∙ whole_comment rest (comment_len rest) (all most (comment_within rest))
+    by (at_token k n e) = absurd (true≢false (sym (eq_is (get_or rest 0 0) 35 c.begins) ∙ (whole_kinded rest k n (is_whole rest k n e)).mark))
+    by (at_nothing h e) = absurd (h.no_comment c.begins)
+
+none_starts : (rest : List ℕ) → rest ≡ [] → starts rest ≡ over
+none_starts rest e = ap starts e ∙ starts_none [] 0 (omega arith)
+
+over_starts : (rest : List ℕ) → (rest ≡ []) ⊎ IsComment rest → starts rest ≡ over
+over_starts rest (inl e) = none_starts rest e
+over_starts rest (inr c) = comment_starts rest c
+
+pub account : (rest : List ℕ) → IsAccount rest
+account rest = record {
+  token = λ k n. ((λ e. (is_whole rest k n e, is_longest rest k n e)), (λ h. token_starts rest k n h.0 h.1));
+  blank = ((λ e. gap_blank rest e), (λ b. blank_starts rest b));
+  over = ((λ e. over_rest rest e), (λ h. over_starts rest h));
+}

@@ -3,8 +3,9 @@ use Rattle.std.proofs.Common.{◌≡◌, ℕ, zero, suc, ◌+◌, ◌≤◌, tru
 use Rattle.std.specs.Str.Lossy.{utf8_valid_len}
 use Rattle.std.proofs.lemmas.Str.{utf8_valid_len_le}
 use Rattle.std.proofs.lemmas.List.{length-take, take-take}
+use Rattle.std.proofs.lemmas.List.Sums.{prefix_len-le-length}
 use Rattle.std.proofs.lemmas.List.Elements.{All-nil, All-cons, recursion_from_All, All-from_recursion}
-use Rattle.syn_term.specs.Tokens.{line_len, comment_len}
+use Rattle.syn_term.specs.Tokens.{is_in_line, line_len, comment_len}
 use Rattle.syn_term.proofs.Passes.{eq_of, eq_is}
 use Rattle.syn_term.proofs.Fronts.{front_text, longest}
 use Rattle.syn_lex.specs.Lexing.{IsCommentText}
@@ -46,6 +47,12 @@ is_text bs = front_text (take (line_len bs) bs)
 
 pub comment_text : (bs : List ℕ) → IsCommentText (take (comment_len bs) bs)
 comment_text bs = let p = in_line bs in (subst IsUtf8 p.1 (is_text bs), before_feed bs (comment_len bs) p.0)
+
+pub comment_within : (bs : List ℕ) → comment_len bs ≤ length bs
+comment_within bs =
+    let p = in_line bs in
+    let lines : line_len bs ≤ length bs = prefix_len-le-length is_in_line bs in
+    omega (arith, p.0, lines)
 
 pub comment_longest : (bs : List ℕ) (m : ℕ) → m ≤ length bs → IsCommentText (take m bs) → m ≤ comment_len bs
 unfolding comment_len

@@ -1,6 +1,5 @@
 pub mod OnePlace
-pub mod LineSteps
-pub mod OneSplit
+pub mod OneCut
 pub mod Runs
 pub mod Window
 pub mod TokenSteps

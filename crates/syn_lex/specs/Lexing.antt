@@ -1,8 +1,9 @@
 -- Public. The tokens of a line, by their places: which tokens a line has, and which byte is the first that begins nothing.
 -- First by the grammar of tokens alone, then by the scanner's own account.
-use Rattle.std.specs.Prelude.{◌≡◌, ℕ, ◌+◌, ◌-◌, ◌<◌, ◌≤◌, ◌⊎◌, List, [], ◌∷◌, IsTrue, length, drop, take, get_or, map}
+use Rattle.std.specs.Prelude.{◌≡◌, ℕ, ◌+◌, ◌-◌, ◌<◌, ◌≤◌, ◌⊎◌, ◌↔◌, List, [], ◌∷◌, IsTrue, length, drop, take, get_or, map}
 use Rattle.std.specs.Str.{byte, IsUtf8}
-use Rattle.syn_term.specs.Tokens.{gap, over, bad, token, starts, is_blank, Word, IsToken, IsCutOff, IsLongest, BeginsNothing}
+use Rattle.syn_term.specs.Tokens.{gap, over, bad, token, starts, is_blank, Word, IsToken, IsCutOff, IsWholeToken, IsLongest, BeginsNothing}
+use Rattle.syn_term.specs.declared.tokens.TokenKind.{TokenKind}
 use Rattle.syn_lex.specs.TextLines.{Without}
 use Rattle.syn_lex.specs.declared.token.Token.{Token}
 use Rattle.syn_lex.specs.declared.token.LexError.{LexError}
@@ -64,6 +65,13 @@ pub record IsFirstBadByte (line : List ℕ) (p : ℕ) : Type 0 where
 abbrev pub Faulty : List ℕ → LexError → Type 0
 Faulty line (error.At p) = IsFirstBadByte line p
 Faulty line error.NoMemory = Unit {0}
+
+-- The scanner's own account, `starts`, says of the rest of a line what the grammar says: a token begins just where it is whole
+-- and the longest, a blank where a blank byte stands, and the line is over where nothing is left or a comment.
+pub record IsAccount (rest : List ℕ) : Type 0 where
+  pub token : (k : TokenKind) (n : ℕ) → (starts rest ≡ token k n) ↔ (IsWholeToken k rest n × IsLongest rest n)
+  pub blank : (starts rest ≡ gap) ↔ IsTrue (is_blank (get_or rest 0 0))
+  pub over : (starts rest ≡ over) ↔ ((rest ≡ []) ⊎ IsComment rest)
 
 -- All places from here to before the end are blanks.
 abbrev pub Blank : List ℕ → ℕ → ℕ → Type 0

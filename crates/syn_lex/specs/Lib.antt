@@ -1,4 +1,3 @@
-pub mod Lines
 pub mod TextLines
 pub mod Lexing
 pub mod inner

@@ -17,6 +17,10 @@ pub record IsCut (bytes : List ℕ) (lines : List (List ℕ)) (rest : List ℕ) 
   pub clean : All (Without 10) lines
   pub open_clean : Without 10 rest
 
+-- Bytes are cut in one way at most.
+abbrev pub OneCut : List ℕ → Type 0
+OneCut bytes = (lines others : List (List ℕ)) (rest more : List ℕ) → IsCut bytes lines rest → IsCut bytes others more → (lines ≡ others) × (rest ≡ more)
+
 -- Line i, from 0, extends the lines before it; Extends says which lines extend which.
 abbrev pub ExtendsAt : (List (List ℕ) → List ℕ → Type 0) → List (List ℕ) → ℕ → Type 0
 ExtendsAt Extends lines i = Extends (take i lines) (slice_index_or lines i [])

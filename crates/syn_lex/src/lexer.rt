@@ -1,9 +1,9 @@
 // A line as tokens. The loop asks at each place what begins there, and goes on behind it; so the
 // tokens are in order, only blanks lie between them, and the first place where nothing begins is
 // the one that is answered.
-ghost use Rattle.std.specs.Prelude.{◌≡◌, ◌++◌, ◌∷◌, [], OnOk, IfErr, IfOk, MatchResult, All};
+ghost use Rattle.std.specs.Prelude.{◌≡◌, ◌++◌, ◌∷◌, [], ℕ, List, OnOk, IfErr, IfOk, MatchResult, All};
 ghost use Rattle.syn_term.specs.Tokens.{Spelled, OneSpelling, SpacedWords};
-ghost use Rattle.syn_lex.specs.Lexing.{Faulty, IsLongestToken, IsTokens, Lexed, OneAnswer, Refused, words_of};
+ghost use Rattle.syn_lex.specs.Lexing.{Faulty, IsAccount, IsLongestToken, IsTokens, Lexed, OneAnswer, Refused, words_of};
 
 use crate::begins::starts;
 use crate::token::{LexError, Token, What};
@@ -55,6 +55,7 @@ fn scan(alloc: Global, line: &[u8]) -> Result<Vec<Token>, LexError>
 pub fn tokens(alloc: Global, line: &[u8]) -> Result<Vec<Token>, LexError>
     ensures answer { MatchResult result (λ found. Lexed line.now found.items) (Refused line.now) }
     ensures grammar { MatchResult result (λ found. IsTokens line.now found.items) (Faulty line.now) }
+    ensures account { (rest : List ℕ) → IsAccount rest }
     ensures one { OneAnswer line.now }
     ensures words { IfOk result (λ found. Spelled line.now (words_of line.now found.items)) }
     ensures one_spelling { OneSpelling line.now }

@@ -1,6 +1,6 @@
-//! Lines and tokens: a file is cut into lines by their places, and a line into tokens. Everything a
-//! token is hangs on one function of the grammar in `syn_term` that says what begins at a place, so the
-//! answer for a line is one alone: its tokens, or the first byte that begins nothing.
+//! Lines and tokens: a file is cut into its lines, in one way alone, and a line into its tokens. The
+//! answer for a line is one alone: its tokens, each the longest at its place by the grammar in `syn_term`,
+//! or the place of the first byte that begins nothing.
 #![tactic(auto)]
 
 mod begins;
@@ -10,6 +10,6 @@ mod token;
 mod words;
 
 pub use lexer::tokens;
-pub use lines::{FileError, Line, split_lines};
+pub use lines::{Cut, FileError, split_at, split_lines};
 pub use syn_term::TokenKind;
 pub use token::{LexError, Token};

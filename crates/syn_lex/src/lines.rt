@@ -1,7 +1,6 @@
-// A file as lines. The bytes are gone through once, and each line feed closes the line that began
-// behind the one before; what is left behind the last is a line without an end.
-ghost use Rattle.std.specs.Prelude.{◌≡◌, ◌++◌, ◌∷◌, [], false, cond, nat_lt, IfOk, OnOk};
-ghost use Rattle.syn_lex.specs.Lines.{Lines, OneSplit};
+// A file as lines: a line is a slice of the file, and no memory is taken for its bytes.
+ghost use Rattle.std.specs.Prelude.{◌≡◌, ◌++◌, ◌∷◌, [], ◌↔◌, IsTrue, MatchOption, IfOk, length, map, slice_index_or};
+ghost use Rattle.syn_lex.specs.TextLines.{IsCut, OneCut, Without};
 
 use std::alloc::Global;
 use syn_term::NoMemory;
@@ -15,17 +14,27 @@ pub enum FileError {
     NoMemory,
 }
 
-/// A line of a file: the places of its bytes, from the first to behind the last, without the line
-/// feed, and whether a line feed follows.
-#[derive(Clone, Copy, Debug, PartialEq, Eq)]
-pub struct Line {
-    pub from: u64,
-    pub to: u64,
-    pub ended: bool,
+/// A file as the lines that line feeds end, and what follows the last line feed.
+#[derive(Drop)]
+pub struct Cut<'a> {
+    pub lines: Vec<&'a [u8]>,
+    pub rest: &'a [u8],
 }
 
-fn push_line(lines: &mut Vec<Line>, line: Line) -> Result<(), NoMemory>
-    ensures { OnOk result (lines.new.items ≡ lines.old.items ++ line ∷ []) }
+/// The texts before and after the first such byte, or `None` where the text has no such byte.
+pub fn split_at(text: &[u8], mark: u8) -> Option<(&[u8], &[u8])>
+    ensures { MatchOption result (Without mark text.now) (λ p. Without mark p.0.now × (text.now ≡ p.0.now ++ mark ∷ p.1.now)) }
+{
+    for (i, byte) in text.iter().enumerate() {
+        if *byte == mark {
+            return Some((&text[..i], &text[i + 1..]));
+        }
+    }
+    None
+}
+
+fn push<'a>(lines: &mut Vec<&'a [u8]>, line: &'a [u8]) -> Result<(), NoMemory>
+    ensures { IfOk result (λ _. map (λ z. z.now) lines.new.items ≡ map (λ z. z.now) lines.old.items ++ line.now ∷ []) }
 {
     match lines.push(line) {
         Ok(()) => Ok(()),
@@ -33,52 +42,42 @@ fn push_line(lines: &mut Vec<Line>, line: Line) -> Result<(), NoMemory>
     }
 }
 
-fn push_last(lines: &mut Vec<Line>, from: u64, to: u64) -> Result<(), NoMemory>
-    ensures { OnOk result (lines.new.items ≡ lines.old.items ++ cond (nat_lt from to) (record { from = from; to = to; ended = false } ∷ []) []) }
-{
-    if from < to {
-        push_line(
-            lines,
-            Line {
-                from,
-                to,
-                ended: false,
-            },
-        )
-    } else {
-        Ok(())
-    }
-}
-
-fn scan_lines(alloc: Global, bytes: &[u8]) -> Result<Vec<Line>, NoMemory>
-    ensures { IfOk result (λ lines. Lines bytes.now 0 lines.items) }
+fn cut_at_feeds(alloc: Global, bytes: &[u8]) -> Result<Cut<'_>, NoMemory>
+    ensures { IfOk result (λ cut. IsCut bytes.now (map (λ line. line.now) cut.lines.items) cut.rest.now) }
 {
     let mut lines = Vec::new(alloc);
-    let mut from = 0;
-    for (i, byte) in bytes.iter().enumerate() {
-        if *byte != b'\n' {
-            continue;
-        }
-        push_line(
-            &mut lines,
-            Line {
-                from: from as u64,
-                to: i as u64,
-                ended: true,
-            },
-        )?;
-        from = i + 1;
+    let mut rest = bytes;
+    while let Some((line, after)) = split_at(rest, b'\n') {
+        push(&mut lines, line)?;
+        rest = after;
     }
-    push_last(&mut lines, from as u64, bytes.len() as u64)?;
-    Ok(lines)
+    Ok(Cut { lines, rest })
 }
 
-/// Cuts a file into its lines, in order. A line feed ends a line; bytes after the last line feed
-/// are a further line, which isn't `ended`; a file without bytes has no line. It takes 24 bytes of
-/// memory a line, and `NoMemory` is the one error.
-pub fn split_lines(alloc: Global, bytes: &[u8]) -> Result<Vec<Line>, NoMemory>
-    ensures lines { IfOk result (λ lines. Lines bytes.now 0 lines.items) }
-    ensures one { OneSplit bytes.now }
+/// Cuts a file into its lines, in order. A line feed ends a line, and what follows the last one is the
+/// rest. It takes 16 bytes of memory a line, and `NoMemory` is the one error.
+pub fn split_lines(alloc: Global, bytes: &[u8]) -> Result<Cut<'_>, NoMemory>
+    ensures cut { IfOk result (λ cut. IsCut bytes.now (map (λ line. line.now) cut.lines.items) cut.rest.now) }
+    ensures one { OneCut bytes.now }
 {
-    scan_lines(alloc, bytes)
+    cut_at_feeds(alloc, bytes)
+}
+
+impl<'a> Cut<'a> {
+    /// The line with this number, counted from 0, or an empty line where there are fewer.
+    pub fn line_at(&self, k: usize) -> &'a [u8]
+        ensures { result.now ≡ slice_index_or (map (λ line. line.now) self.now.lines.items) k [] }
+    {
+        match self.lines.as_slice().get(k) {
+            None => &[],
+            Some(line) => line,
+        }
+    }
+
+    /// Whether there are so many lines and nothing after them.
+    pub fn ends_after(&self, count: usize) -> bool
+        ensures { IsTrue result ↔ ((length (map (λ line. line.now) self.now.lines.items) ≡ count) × (self.now.rest.now ≡ [])) }
+    {
+        self.lines.len() == count && self.rest.is_empty()
+    }
 }

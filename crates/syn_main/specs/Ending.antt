@@ -7,7 +7,6 @@ use Rattle.std.specs.declared.io.ErrorKind.TheVariants as kind
 use Rattle.syn_app.specs.declared.status.Status.{Status}
 use Rattle.syn_app.specs.declared.status.Status.TheVariants as status
 use Rattle.syn_app.specs.Comes.{Comes, Scene, TellsPuts, TellsReads}
-use Rattle.syn_app.specs.Words.{IsNoCheck}
 
 -- the words among the arguments
 abbrev pub words_of : List (String Global) → List (List ℕ)

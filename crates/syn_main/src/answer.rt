@@ -1,6 +1,6 @@
 // What the process's arguments come to, over any files and any output: so what is promised of told
 // files and a told text is promised of the call that `main` makes.
-ghost use Rattle.std.specs.Prelude.{◌≡◌, ◌→◌, ◌⊎◌, ◌×◌, MatchResult};
+ghost use Rattle.std.specs.Prelude.{◌≡◌, ◌⊎◌, MatchResult};
 ghost use Rattle.std.specs.IoError.{error_kind};
 ghost use Rattle.std.specs.Process.{exit_status};
 ghost use Rattle.syn_app.specs.Status.{status_number};

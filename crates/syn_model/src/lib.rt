@@ -6,6 +6,7 @@ mod among;
 mod axioms;
 mod clauses;
 mod closed;
+mod copying;
 mod decl;
 mod headings;
 mod may_follow;

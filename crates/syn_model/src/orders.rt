@@ -11,7 +11,7 @@ ghost use Rattle.syn_model.specs.Tables.{table_of};
 use crate::among::is_measured_in;
 use crate::decl::Decl;
 use crate::naming::names_other;
-use syn_form::{is_sorted, sort_in};
+use syn_form::is_sorted;
 use syn_term::{Sort, Symbols, Term};
 
 /// Whether no axiom and no monotonicity row has the name.
@@ -59,7 +59,7 @@ pub(crate) fn asks_head(decls: &[Decl], name: &str, args: &[Sort]) -> bool
 fn is_number(syms: &Symbols, t: &Term) -> bool
     ensures { IsTrue result ↔ (sort_of syms.now t.now ≡ Some sorts.Nat) }
 {
-    sort_in(syms, t) == Some(Sort::Nat)
+    t.sort_in(syms) == Some(Sort::Nat)
 }
 
 /// Whether the term is a number over variables of these sorts.

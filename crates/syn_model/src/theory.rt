@@ -9,6 +9,7 @@ ghost use Rattle.syn_model.specs.Theories.{MayBring, Steps, bare_theory, with_de
 ghost use Rattle.syn_model.specs.Tables.{fun_symbol, order_symbol, rel_symbol, table_after, table_of};
 ghost use Rattle.syn_model.specs.declared.theory.DeclError.TheVariants as error;
 
+use crate::copying::decls_again;
 use crate::decl::Decl;
 use crate::headings::is_whole;
 use crate::may_follow::may_follow;
@@ -203,6 +204,21 @@ impl Theory {
             name,
             syms: Symbols::new(alloc)?,
             decls: Items::new(alloc),
+        })
+    }
+
+    /// The same theory once more. Its trees are shared; its names and its table are copied.
+    pub fn copy(&self) -> Result<Theory, NoMemory>
+        ensures { IfOk result (λ t. t ≡ self.now) }
+    {
+        let name = self.name.again()?;
+        let syms = self.syms.copy(self.alloc)?;
+        let decls = decls_again(self.alloc, self.decls.as_slice())?;
+        Ok(Theory {
+            alloc: self.alloc,
+            name,
+            syms,
+            decls,
         })
     }
 

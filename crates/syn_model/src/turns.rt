@@ -16,8 +16,8 @@ use crate::headings::arguments_in;
 use crate::patterns::{Pattern, Patterns, Role, patterns_in, role_of};
 use crate::uses::Rest;
 use sqlite_items::at;
-use syn_form::{are_sorted, have_sorts};
-use syn_term::{Head, Node, Sort, Symbols, Term, Var};
+use syn_form::are_sorted;
+use syn_term::{Head, Node, Sort, Symbols, Term, Var, have_sorts};
 
 /// Whether the pattern of a first clause may be this for its sort.
 fn begins_with(role: Role) -> bool

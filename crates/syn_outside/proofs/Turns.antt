@@ -1,9 +1,19 @@
 -- What one turn more adds to what a reader has taken and to what a writer has put.
-use Rattle.std.proofs.Common.{◌≡◌, ℕ, ◌+◌, ◌-◌, ◌≤◌, List, [], ◌++◌, length, take, drop, Option, Some, None, refl, sym, ap, ◌∙◌, subst, arith, take-add, append_assoc, length-take}
+use Rattle.std.proofs.Common.{◌≡◌, ℕ, ◌+◌, ◌-◌, ◌<◌, ◌≤◌, List, [], ◌++◌, length, take, drop, Option, Some, None, refl, sym, ap, ◌∙◌, subst, arith, take-add, append_assoc, length-take}
 use Rattle.std.proofs.lemmas.List.{take_all, take_rest}
 use Rattle.syn_outside.specs.Files.{File, file_of, Told}
 use Rattle.syn_outside.specs.Texts.{Adds}
-use Rattle.syn_outside.specs.inner.Whole.{TakesPart, HasTaken}
+use Rattle.syn_outside.specs.inner.Whole.{TakesPart}
+
+-- The files are told, and these are the bytes of the name.
+abbrev pub IsFile : Option (List File) → List ℕ → List ℕ → Type 0
+IsFile None name bytes = ⊥
+IsFile (Some fs) name bytes = file_of fs name ≡ Some bytes
+
+-- What a reader has taken is the file's beginning, and the file is there if anything was taken.
+pub record HasTaken (files : Option (List File)) (name taken : List ℕ) : Type 0 where
+  pub is : (bytes : List ℕ) → IsFile files name bytes → taken ≡ take (length taken) bytes
+  pub there : 0 < length taken → Told (λ bytes. length taken ≤ length bytes) files name
 
 -- A beginning and the next bytes are a beginning.
 longer : (old new : List ℕ) (k : ℕ) (bytes : List ℕ) → old ≡ take (length old) bytes → new ≡ old ++ take k (drop (length old) bytes) → length new ≡ length old + k → new ≡ take (length new) bytes

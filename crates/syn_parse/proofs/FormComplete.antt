@@ -75,9 +75,6 @@ end_disj d = last_conj (last_disj d)
 abbrev pub end_imp : ImpText → UnaryText
 end_imp i = end_disj (last_imp i)
 
-conj_of-whole : (bs : List Prefix) (c : ConjText) (o : Option DisjText) (l : List DisjText) (s : Option ImpText) → conj_of (held_conj bs c o l s) (last_conj c) ≡ c
-conj_of-whole bs c o l s = conj-whole c
-
 disj_of-whole : (bs : List Prefix) (d : DisjText) (l : List DisjText) (s : Option ImpText) → disj_of (held_disj bs d l s) (end_disj d) ≡ d
 disj_of-whole bs d l s = ap (disj_with (earlier_disj d)) (conj-whole (last_disj d)) ∙ disj-whole d
 

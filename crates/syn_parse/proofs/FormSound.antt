@@ -114,9 +114,6 @@ module _ (h : Held) (u : UnaryText) where
 
 -- the items so far, and one more
 module _ (h : Held) (out : List Place) (u : UnaryText) where
-  told_split : (x : List Item) → text (having h out u) ++ x ≡ text_outs out ++ (text_bounds h.prefixes ++ (text_side h.side ++ (text_lefts h.lefts ++ (text_disj h.disj ++ (text_conj h.conj ++ (items_of_unary u ++ x))))))
-  told_split x = simp append_assoc
-
   told_and : text (wanting false (and_place h out (conj_of h u)) out) ≡ text (having h out u) ++ fixed mark.And ∷ []
   told_and = rw (conj-text h.conj u) (simp (append_assoc, append-nil))
 

@@ -6,10 +6,6 @@ use Rattle.syn_parse.specs.Lexemes.{IsWritten}
 use Rattle.syn_parse.specs.inner.Passes.{Gives}
 use Rattle.syn_parse.proofs.LexemeLaws.{one_writing}
 
--- a text without lexemes gives nothing
-pub gives_none : {X : Type 0} (from : List Lexeme → Option X) (text : List ℕ) → ((ls : List Lexeme) → IsWritten text ls → ⊥) → Gives from text None
-gives_none from text none = record { all = λ ls w. absurd (none ls w); some = tt }
-
 -- a text gives what its lexemes give
 pub gives_of : {X : Type 0} (from : List Lexeme → Option X) (text : List ℕ) (ls : List Lexeme) (o : Option X) → IsWritten text ls → o ≡ from ls → Gives from text o
 gives_of {X} from text ls o w e = record { all = λ ms v. ap from (one_writing text ms ls v w) ∙ sym e; some = there o e }

@@ -12,7 +12,7 @@ use Rattle.syn_parse.specs.inner.PhraseMachine.{phrases_of}
 use Rattle.syn_parse.specs.inner.ItemMachine.{items_of}
 use Rattle.syn_parse.specs.Written.{Written, WrittenUnary, WrittenConj, WrittenDisj, WrittenImp, WrittenForm, WrittenOut}
 use Rattle.syn_parse.proofs.ItemTexts.{words_of_items-form, words_of_items-out, words_of_items-term}
-use Rattle.syn_parse.proofs.ItemRuns.{Apart, Goes, Behind, Alone, stops, stands_alone, apart_read}
+use Rattle.syn_parse.proofs.ItemRuns.{Apart, Goes, Behind, stops, stands_alone, apart_read}
 
 behind_mark : (i : Item) (m : Mark) → stops m ≡ true → Behind i (item.Fixed m)
 behind_mark (item.Term t) m s = s
@@ -34,9 +34,6 @@ apart_mark (x ∷ z ∷ zs) ys m s a h y = (h.0, h.1, apart_mark (z ∷ zs) ys m
 apart_first : (m : Mark) (xs : List Item) → stands_alone m ≡ true → Apart xs → Apart (item.Fixed m ∷ xs)
 apart_first m [] a h = (a, tt, h)
 apart_first m (x ∷ xs) a h = (a, tt, h)
-
-apart_quantifier : (i : Item) (xs : List Item) → ((zs : List Item) → Goes i zs) → Alone i → Apart xs → Apart (i ∷ xs)
-apart_quantifier i xs g a h = (a, g xs, h)
 
 mutual
   apart_unary : (u : UnaryText) → WrittenUnary u → Apart (items_of_unary u)

@@ -28,7 +28,7 @@ use Rattle.syn_parse.specs.declared.item_reader.Call.{Call}
 use Rattle.syn_parse.specs.declared.item_reader.ItemReader.{ItemReader}
 use Rattle.syn_parse.specs.inner.PhraseMachine as binding
 use Rattle.syn_parse.specs.inner.ItemMachine.{reads, start, placed_at, flushed, emptied, with_next, with_item, head_of, call_of, opened, open_at, equals_at, outside, with_arg, closed_call, inside, inside_at, mark_at, word_next, quantifier_at, step, run, ended, ended_at, items_of}
-use Rattle.syn_parse.specs.inner.Passes.{items_from}
+use Rattle.syn_parse.proofs.Passed.{items_from}
 use Rattle.syn_parse.specs.Written.{Written, term_height, has_args, some_all}
 use Rattle.syn_parse.proofs.ItemSound.{flushed_items}
 use Rattle.syn_parse.proofs.TermShapes.{height-Number, height-RowVar, height-Alone, height-Applied, has_args-Number, has_args-RowVar, has_args-Alone, has_args-Applied}

@@ -3,7 +3,6 @@ mod FormLevels
 mod FormSteps
 mod FormComplete
 mod FormSound
-mod FormExact
 mod FormRuns
 pub mod MarkTable
 pub mod NotSpelled
@@ -13,9 +12,9 @@ mod DigitRuns
 pub mod LexemeLaws
 mod OutComplete
 mod OutSound
-mod OutExact
 pub mod TermShapes
 mod ItemTexts
+pub mod Feeding
 mod Commas
 mod PhraseSound
 mod ItemSound
@@ -26,5 +25,6 @@ mod ItemComplete
 mod ItemExact
 mod ItemsWritten
 mod ReadingsWritten
+mod Passed
 pub mod Gives
 pub mod Parses

@@ -16,7 +16,7 @@ use Rattle.syn_parse.specs.inner.FormMachine as forms
 use Rattle.syn_parse.specs.inner.OutMachine as outs
 use Rattle.syn_parse.specs.Lexemes.{IsCanonical, IsWritten}
 use Rattle.syn_parse.specs.Parsing.{IsFormSyntaxOf, IsOutSyntaxOf, IsTermSyntaxOf, OneSyntax, Parses}
-use Rattle.syn_parse.specs.inner.Passes.{Gives, form_from, items_from, one_term, out_from, term_from}
+use Rattle.syn_parse.specs.inner.Passes.{Gives, form_from, out_from, term_from, term_step, term_start, term_ended}
 use Rattle.syn_parse.proofs.FormComplete as form_complete
 use Rattle.syn_parse.proofs.FormSound as form_sound
 use Rattle.syn_parse.proofs.ItemComplete.{complete_form, complete_out, complete_term}
@@ -25,6 +25,7 @@ use Rattle.syn_parse.proofs.ItemsWritten.{WrittenItem, written_items}
 use Rattle.syn_parse.proofs.LexemeLaws.{one_writing}
 use Rattle.syn_parse.proofs.OutComplete as out_complete
 use Rattle.syn_parse.proofs.OutSound as out_sound
+use Rattle.syn_parse.proofs.Passed.{items_from, one_term, passed}
 use Rattle.syn_parse.proofs.ReadingsWritten.{written_form, written_out}
 
 low_tree : {text : List ℕ} {f : FormSyntax} (k : IsFormSyntaxOf text f) → height_of (syntax_of_form k.reading) ≤ 1264
@@ -33,15 +34,25 @@ low_tree k = subst (λ (z : FormSyntax). height_of z ≤ 1264) (sym k.tree) k.lo
 low_out : {text : List ℕ} {o : OutSyntax} (k : IsOutSyntaxOf text o) → out_height (syntax_of_out k.reading) ≤ 1264
 low_out k = subst (λ (z : OutSyntax). out_height z ≤ 1264) (sym k.tree) k.low
 
+-- what is read of lexemes is read of their items
+term_passed : (ls : List Lexeme) → term_from ls ≡ option_and_then one_term (items_from ls)
+term_passed ls = passed term_step term_start term_ended ls
+
+form_passed : (ls : List Lexeme) → form_from ls ≡ option_and_then forms.parsed (items_from ls)
+form_passed ls = passed forms.step forms.start forms.ended ls
+
+out_passed : (ls : List Lexeme) → out_from ls ≡ option_and_then outs.parsed (items_from ls)
+out_passed ls = passed outs.step outs.start outs.ended ls
+
 -- what is read of the words of a low reading
 pub term_from_words : (text : List ℕ) (t : TermSyntax) (k : IsTermSyntaxOf text t) → term_from (words_of_term t) ≡ Some t
-term_from_words text t k = ap (option_and_then one_term) (complete_term t k.written)
+term_from_words text t k = term_passed (words_of_term t) ∙ ap (option_and_then one_term) (complete_term t k.written)
 
 pub form_from_words : (text : List ℕ) (f : FormSyntax) (k : IsFormSyntaxOf text f) → form_from (words_of_form k.reading) ≡ Some f
-form_from_words text f k = ap (option_and_then forms.parsed) (complete_form k.reading k.written) ∙ (form_complete.complete k.reading (low_tree k) ∙ ap (λ (z : FormSyntax). Some z) k.tree)
+form_from_words text f k = form_passed (words_of_form k.reading) ∙ (ap (option_and_then forms.parsed) (complete_form k.reading k.written) ∙ (form_complete.complete k.reading (low_tree k) ∙ ap (λ (z : FormSyntax). Some z) k.tree))
 
 pub out_from_words : (text : List ℕ) (o : OutSyntax) (k : IsOutSyntaxOf text o) → out_from (words_of_out k.reading) ≡ Some o
-out_from_words text o k = ap (option_and_then outs.parsed) (complete_out k.reading k.written) ∙ (out_complete.complete k.reading (low_out k) ∙ ap (λ (z : OutSyntax). Some z) k.tree)
+out_from_words text o k = out_passed (words_of_out k.reading) ∙ (ap (option_and_then outs.parsed) (complete_out k.reading k.written) ∙ (out_complete.complete k.reading (low_out k) ∙ ap (λ (z : OutSyntax). Some z) k.tree))
 
 -- lexemes of one text are read alike
 one_answer : {S : Type 0} (from : List Lexeme → Option S) (text : List ℕ) (ls ms : List Lexeme) (s t : S) → IsWritten text ls → IsWritten text ms → from ls ≡ Some s → from ms ≡ Some t → s ≡ t
@@ -63,7 +74,10 @@ items_words text ls is h e = words_sound ls is (all_not_nat IsCanonical (λ x d.
 one_is : (is : List Item) (t : TermSyntax) → one_term is ≡ Some t → is ≡ item.Term t ∷ []
 one_is (item.Term u ∷ []) t e = let k : u ≡ t = cc in ap (λ (z : TermSyntax). item.Term z ∷ []) k
 one_is [] t e = absurd (cc)
-one_is (item.Term u ∷ i ∷ is) t e = absurd (cc)
+one_is (item.Term u ∷ item.Term v ∷ is) t e = absurd (cc)
+one_is (item.Term u ∷ item.Equal v w ∷ is) t e = absurd (cc)
+one_is (item.Term u ∷ item.Quantifier q bs ∷ is) t e = absurd (cc)
+one_is (item.Term u ∷ item.Fixed m ∷ is) t e = absurd (cc)
 one_is (item.Equal u v ∷ is) t e = absurd (cc)
 one_is (item.Quantifier q bs ∷ is) t e = absurd (cc)
 one_is (item.Fixed m ∷ is) t e = absurd (cc)
@@ -71,7 +85,7 @@ one_is (item.Fixed m ∷ is) t e = absurd (cc)
 -- the text stands for what its lexemes give
 term_stands : (text : List ℕ) (ls : List Lexeme) (t : TermSyntax) → IsWritten text ls → term_from ls ≡ Some t → IsTermSyntaxOf text t
 term_stands text ls t h e =
-    option_and_then_some one_term (items_from ls) t e (λ is first second.
+    option_and_then_some one_term (items_from ls) t (sym (term_passed ls) ∙ e) (λ is first second.
     let one = one_is is t second in
     let same : ls ≡ words_of_term t = term_words ls is t (items_words text ls is h first) one in
     let all : All WrittenItem (item.Term t ∷ []) = subst (λ (z : List Item). All WrittenItem z) one (written_items ls is first) in
@@ -79,7 +93,7 @@ term_stands text ls t h e =
 
 form_stands : (text : List ℕ) (ls : List Lexeme) (f : FormSyntax) → IsWritten text ls → form_from ls ≡ Some f → IsFormSyntaxOf text f
 form_stands text ls f h e =
-    option_and_then_some forms.parsed (items_from ls) f e (λ is first second.
+    option_and_then_some forms.parsed (items_from ls) f (sym (form_passed ls) ∙ e) (λ is first second.
     let read = form_sound.sound is f second in
     let same = form_words ls is read.0 (items_words text ls is h first) read.1 in
     let all : All WrittenItem (items_of_form read.0) = subst (λ (z : List Item). All WrittenItem z) read.1 (written_items ls is first) in
@@ -87,7 +101,7 @@ form_stands text ls f h e =
 
 out_stands : (text : List ℕ) (ls : List Lexeme) (o : OutSyntax) → IsWritten text ls → out_from ls ≡ Some o → IsOutSyntaxOf text o
 out_stands text ls o h e =
-    option_and_then_some outs.parsed (items_from ls) o e (λ is first second.
+    option_and_then_some outs.parsed (items_from ls) o (sym (out_passed ls) ∙ e) (λ is first second.
     let read = out_sound.sound is o second in
     let same = out_words ls is read.0 (items_words text ls is h first) read.1 in
     let all : All WrittenItem (items_of_out read.0) = subst (λ (z : List Item). All WrittenItem z) read.1 (written_items ls is first) in

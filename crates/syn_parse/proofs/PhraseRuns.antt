@@ -20,7 +20,6 @@ use Rattle.syn_form.specs.declared.syntax.TermSyntax.TheViews as view
 use Rattle.syn_form.specs.Grammar.{fixed, head_lexeme, with_commas, quantifier_mark, sort_lexeme, words_of_binder, words_of_quantifier, words_of_term, words_of_args}
 use Rattle.syn_parse.specs.declared.phrase_reader.Phrase.{Phrase}
 use Rattle.syn_parse.specs.declared.phrase_reader.Phrase.TheVariants as phrase
-use Rattle.syn_parse.specs.declared.phrase_reader.BinderStage.{BinderStage}
 use Rattle.syn_parse.specs.declared.phrase_reader.BinderStage.TheVariants as stage
 use Rattle.syn_parse.specs.declared.phrase_reader.PhraseReader.{PhraseReader}
 use Rattle.syn_parse.specs.declared.items.Item.{Item}
@@ -102,7 +101,6 @@ sort_at s false d = refl
 
 sort_back : (b : BinderSyntax) → sort_of (sort_lexeme b) ≡ Some b.sort
 sort_back b = sort_at b.sort (bytes_eq b.sort (codes "nat")) (bytes_eq-Decides b.sort (codes "nat"))
-
 
 module _ (done : List Phrase) (q : Quantifier) where
   binder_runs : (bs : List BinderSyntax) (b : BinderSyntax) → run (words_of_binder b) (holds done q bs stage.Name) ≡ Some (holds done q (bs ++ b ∷ []) stage.Next)

@@ -11,17 +11,13 @@ use Rattle.std.proofs.lemmas.Str.Pattern.{IsSplitOnceResult, split_after, split_
 use Rattle.syn_term.specs.declared.tokens.TokenKind.{TokenKind}
 use Rattle.syn_term.specs.declared.tokens.TokenKind.TheVariants as kind
 use Rattle.syn_term.specs.Names.{reserved, IsNumber, IsTag, IsSkolemName}
-use Rattle.syn_term.specs.Tokens.{Word, IsDigits, IsWrittenSort, IsRowVariable, IsToken}
+use Rattle.syn_term.specs.Tokens.{Word, IsWrittenSort, IsRowVariable, IsToken}
 use Rattle.syn_term.proofs.ReservedWords.{reserved_word}
 use Rattle.syn_form.specs.declared.syntax.Lexeme.{Lexeme}
 use Rattle.syn_form.specs.declared.syntax.Lexeme.TheVariants as lexeme
-use Rattle.syn_form.specs.Grammar.{name_word}
 use Rattle.syn_parse.specs.inner.Spelling.{NoLexeme, NoMark, NoNumber, Spells, row_word, word}
 
 -- numbers
-
-pub digits_fit : (text : List ℕ) → IsDigits text → NoNumber text → ⊥
-digits_fit text d none = let small : d.0 < 10 ^ 7 = d.1 in none d.0 (omega arith) d.2
 
 number_fits : (text : List ℕ) → IsNumber text → NoNumber text → ⊥
 number_fits text is none = let small : is.number < 10 ^ 7 = is.small in none is.number (omega arith) is.is
@@ -81,17 +77,7 @@ bare_word text = ap (λ (z : List ℕ). word kind.RowVar (63 ∷ z)) (append-nil
 pub sorted_word : (text : List ℕ) (digits after : Bor (List ℕ)) → IsSplitOnceResult 58 text (Some (digits, after)) → row_word digits.now (58 ∷ after.now) ≡ word kind.RowVar (63 ∷ text)
 sorted_word text digits after cut = ap (λ (z : List ℕ). word kind.RowVar (63 ∷ z)) (sym (split_parts 58 text (Some (digits, after)) cut (omega arith)).0)
 
--- what is spelled by what words
-
-pub found_is : (w : Word) (P : Type 0) (o : Option Lexeme) → (P → ⊥) → MatchOption o P (Spells w) → MatchOption o (NoLexeme w) (Spells w)
-found_is w P None some h = absurd (some h)
-found_is w P (Some l) some h = h
-
-pub name_spells : (name text : List ℕ) → name ≡ text → NoMark (word kind.Name text) → Spells (word kind.Name text) (lexeme.Name name)
-name_spells name text e none = (λ m same. none m (same ∙ ap name_word e), ap name_word e)
-
-pub skolem_spells : (name text : List ℕ) → name ≡ text → Spells (word kind.Skolem text) (lexeme.Skolem name)
-skolem_spells name text e = (tt, ap (word kind.Skolem) e)
+-- words of other kinds are no signs
 
 name_no_sign : kind.Name ≡ kind.Sign → ⊥
 name_no_sign e = cc

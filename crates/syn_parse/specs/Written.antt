@@ -1,8 +1,6 @@
 -- Public. Which readings are read: their terms are not too high, and nothing is left out in them that the grammar asks for.
-use Rattle.std.specs.Prelude.{◌≡◌, ℕ, ◌+◌, ◌≤◌, Bool, true, false, if◌then◌else◌, List, [], ◌∷◌, length, codes}
+use Rattle.std.specs.Prelude.{◌≡◌, ℕ, ◌+◌, ◌≤◌, Bool, true, false, if◌then◌else◌, List, [], ◌∷◌, length}
 use Rattle.syn_term.specs.Terms.{greatest}
-use Rattle.syn_form.specs.declared.syntax.Lexeme.{Lexeme}
-use Rattle.syn_form.specs.declared.syntax.Lexeme.TheVariants as lexeme
 use Rattle.syn_form.specs.declared.syntax.HeadName.TheVariants as head
 use Rattle.syn_form.specs.declared.syntax.TermSyntax.{TermSyntax, fold-TermSyntax}
 use Rattle.syn_form.specs.declared.syntax.TermSyntax.TheOpen.{TermSyntax-F}

@@ -3,6 +3,7 @@ pub mod Spelling
 pub mod Items
 pub mod PhraseMachine
 pub mod ItemMachine
+pub mod Feeding
 pub mod FormMachine
 pub mod OutMachine
 pub mod Passes

@@ -1,7 +1,8 @@
 // What a reader of formulas holds for each open bracket, and how the levels of precedence are
 // closed. Each formula is kept with its height, and one that would be too high is refused as soon
 // as it is made: so nothing deeper is ever dropped or handed on.
-ghost use Rattle.std.specs.Prelude.{◌≡◌, IfOk, OnOk};
+ghost use Rattle.std.specs.Prelude.{◌≡◌, Some, IsTrue, IfOk, OnOk};
+ghost use Rattle.syn_parse.specs.declared.form_frames.Tall.{Tall};
 ghost use Rattle.syn_parse.specs.inner.FormMachine as machine;
 ghost use Rattle.syn_parse.specs.inner.Leads.{Makes};
 
@@ -82,6 +83,26 @@ impl Frame {
             side: None,
         }
     }
+}
+
+/// Whether nothing but `not`s was read before the operand, so that the form is just the operand.
+#[tactic(auto, using(crate::proofs::FormFrames::bare_done))]
+fn is_bare(frame: &Frame) -> bool
+    ensures { IsTrue result → (u : Tall) → machine.form_done frame.now u ≡ Some u }
+{
+    if !frame.prefixes.is_empty() {
+        return false;
+    }
+    if !frame.ands.forms.is_empty() {
+        return false;
+    }
+    if !frame.ors.forms.is_empty() {
+        return false;
+    }
+    if !frame.lefts.is_empty() {
+        return false;
+    }
+    frame.side.is_none()
 }
 
 /// A formula whose highest part has the height `below`, where it is not too high.
@@ -289,6 +310,10 @@ fn sides_done(
 pub(crate) fn form_done(alloc: Global, frame: Frame, u: Tall) -> Result<Tall, Stop>
     ensures { Makes result (machine.form_done frame u) }
 {
+    if is_bare(&frame) {
+        drop(frame);
+        return Ok(u);
+    }
     let Frame {
         prefixes,
         nots: _,

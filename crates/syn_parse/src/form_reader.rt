@@ -7,7 +7,8 @@ use crate::form_frames::{
     Frame, Members, Prefix, Tall, chain_and, form_done, imp_done, negated, or_done,
 };
 use crate::items::Item;
-use crate::stack::{Stack, stacked};
+use crate::sink::ItemSink;
+use crate::stack::Stack;
 use crate::stop::Stop;
 use sqlite_items::{Boxed, Items};
 use std::alloc::Global;
@@ -256,16 +257,6 @@ impl FormReader {
         }
     }
 
-    /// The reader one item further.
-    pub(crate) fn step(&mut self, alloc: Global, item: Item) -> Result<(), Stop>
-        ensures { Leads result self.new (machine.step self.old item) }
-    {
-        match self.last.take() {
-            None => self.begun(alloc, item),
-            Some(u) => self.went_on(alloc, u, item),
-        }
-    }
-
     /// The formula that was read, with its height, where all brackets are closed and no operand is
     /// missing.
     pub(crate) fn finish(&mut self, alloc: Global) -> Result<Tall, Stop>
@@ -288,34 +279,21 @@ impl FormReader {
     }
 
     /// The same without its height.
-    fn end(&mut self, alloc: Global) -> Result<FormSyntax, Stop>
+    pub(crate) fn end(&mut self, alloc: Global) -> Result<FormSyntax, Stop>
         ensures { Makes result (machine.ended self.old) }
     {
         let whole = self.finish(alloc)?;
         Ok(whole.form)
     }
-
-    fn run(&mut self, alloc: Global, items: &mut Stack<Item>) -> Result<(), Stop>
-        ensures { Leads result self.new (machine.run items.old self.old) }
-    {
-        while let Some(item) = items.pop() {
-            self.step(alloc, item)?;
-        }
-        Ok(())
-    }
 }
 
-/// The formula that the items are.
-pub(crate) fn form_of_items(alloc: Global, items: Items<Item>) -> Result<FormSyntax, Stop>
-    ensures { Makes result (machine.parsed items) }
-{
-    let mut rest = stacked(alloc, items)?;
-    let mut reader = FormReader::new(alloc);
-    let form = match reader.run(alloc, &mut rest) {
-        Ok(()) => reader.end(alloc),
-        Err(stop) => Err(stop),
-    };
-    drop(reader);
-    drop(rest);
-    form
+impl ItemSink for FormReader {
+    ghost takes = { machine.step };
+
+    fn take(&mut self, alloc: Global, item: Item) -> Result<(), Stop> {
+        match self.last.take() {
+            None => self.begun(alloc, item),
+            Some(u) => self.went_on(alloc, u, item),
+        }
+    }
 }

@@ -1,18 +1,20 @@
 // The second pass puts terms and equalities together. A name is a term by itself until a bracket
 // opens behind it; so the reader never looks ahead.
-ghost use Rattle.std.specs.Prelude.{◌≡◌, IfOk};
+ghost use Rattle.std.specs.Prelude.{◌≡◌, List, [], ◌∷◌, IfOk, OnOk};
 ghost use Rattle.syn_form.specs.declared.syntax.Mark.TheVariants as mark;
+ghost use Rattle.syn_parse.specs.declared.phrase_reader.Phrase.{Phrase};
+ghost use Rattle.syn_parse.specs.inner.Feeding.{Keeps, fed, feed};
 ghost use Rattle.syn_parse.specs.inner.ItemMachine as machine;
 ghost use Rattle.syn_parse.specs.inner.Leads.{Leads, Makes};
 
 use crate::items::Item;
 use crate::limits::MAX_OPEN;
 use crate::phrase_reader::Phrase;
-use crate::stack::{Stack, stacked};
+use crate::sink::ItemSink;
+use crate::stack::{Row, Stack, first};
 use crate::stop::Stop;
 use sqlite_items::Items;
 use std::alloc::{AllocError, Global};
-use std::mem;
 use syn_form::{BinderSyntax, HeadName, Lexeme, Mark, Quantifier, TermSyntax};
 
 /// A head whose bracket is open, and its arguments before the last.
@@ -270,7 +272,7 @@ impl ItemReader {
     }
 
     /// The reader one phrase further.
-    pub(crate) fn step(&mut self, alloc: Global, phrase: Phrase) -> Result<(), Stop>
+    fn step(&mut self, alloc: Global, phrase: Phrase) -> Result<(), Stop>
         ensures { Leads result self.new (machine.step self.old phrase) }
     {
         match phrase {
@@ -279,43 +281,74 @@ impl ItemReader {
         }
     }
 
-    fn run(&mut self, alloc: Global, phrases: &mut Stack<Phrase>) -> Result<(), Stop>
-        ensures { Leads result self.new (machine.run phrases.old self.old) }
-    {
-        while let Some(phrase) = phrases.pop() {
-            self.step(alloc, phrase)?;
-        }
-        Ok(())
-    }
-
-    /// The items, where no call is open.
-    fn end(&mut self, alloc: Global) -> Result<Items<Item>, Stop>
-        ensures { Makes result (machine.ended self.old) }
+    /// The end, where no call is open: the last term becomes an item.
+    fn finish(&mut self) -> Result<(), Stop>
+        ensures { Leads result self.new (machine.finished self.old) }
     {
         match self.calls.pop() {
-            None => {
-                self.flush()?;
-                Ok(mem::replace(&mut self.items, Items::new(alloc)))
-            }
+            None => self.flush(),
             Some(call) => {
                 drop(call);
                 Err(Stop::Misplaced)
             }
         }
     }
+
+    /// One phrase, and the items that are whole then go to the sink.
+    fn pass<S: ItemSink>(&mut self, alloc: Global, phrase: Phrase, sink: &mut S) -> Result<(), Stop>
+        ensures { (more : List Phrase) → Keeps result (fed S.takes sink.old self.old (phrase ∷ more)) (fed S.takes sink.new self.new more) }
+    {
+        self.step(alloc, phrase)?;
+        pass_on(alloc, &mut self.items, sink)
+    }
+
+    /// The end, and the items that are left go to the sink.
+    fn pass_last<S: ItemSink>(&mut self, alloc: Global, sink: &mut S) -> Result<(), Stop>
+        ensures { Leads result sink.new (fed S.takes sink.old self.old []) }
+    {
+        self.finish()?;
+        pass_on(alloc, &mut self.items, sink)
+    }
+
+    /// All phrases and the end.
+    fn pass_all<S: ItemSink>(
+        &mut self,
+        alloc: Global,
+        phrases: &mut Stack<Phrase>,
+        sink: &mut S,
+    ) -> Result<(), Stop>
+        ensures { Leads result sink.new (fed S.takes sink.old self.old phrases.old) }
+    {
+        while let Some(phrase) = phrases.pop() {
+            self.pass(alloc, phrase, sink)?;
+        }
+        self.pass_last(alloc, sink)
+    }
 }
 
-/// The items of a text from its phrases.
-pub(crate) fn items_of(alloc: Global, phrases: Items<Phrase>) -> Result<Items<Item>, Stop>
-    ensures { Makes result (machine.items_of phrases) }
+/// The items go to the sink.
+fn pass_on<S: ItemSink>(alloc: Global, items: &mut Items<Item>, sink: &mut S) -> Result<(), Stop>
+    ensures fed { Leads result sink.new (feed S.takes items.old sink.old) }
+    ensures rest { OnOk result (items.new ≡ []) }
 {
-    let mut rest = stacked(alloc, phrases)?;
+    while let Some(item) = first(items) {
+        sink.take(alloc, item)?;
+    }
+    Ok(())
+}
+
+/// The items of a text go from its phrases to the sink.
+pub(crate) fn feed_items<S: ItemSink>(
+    alloc: Global,
+    phrases: Row<Phrase>,
+    sink: &mut S,
+) -> Result<(), Stop>
+    ensures { Leads result sink.new (fed S.takes sink.old machine.start phrases) }
+{
+    let mut rest = phrases.into_stack();
     let mut reader = ItemReader::new(alloc);
-    let items = match reader.run(alloc, &mut rest) {
-        Ok(()) => reader.end(alloc),
-        Err(stop) => Err(stop),
-    };
+    let read = reader.pass_all(alloc, &mut rest, sink);
     drop(reader);
     drop(rest);
-    items
+    read
 }

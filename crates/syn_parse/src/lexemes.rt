@@ -3,13 +3,13 @@
 ghost use Rattle.std.specs.Prelude.{◌≡◌, ◌++◌, [], List, IfOk, MatchOption, All, codes};
 ghost use Rattle.syn_term.specs.declared.tokens.TokenKind.TheVariants as kind;
 ghost use Rattle.syn_term.specs.Tokens.{IsToken, IsRowVariable};
-ghost use Rattle.syn_lex.specs.Lexing.{IsWhole, bytes_of, words_of, word_of};
+ghost use Rattle.syn_lex.specs.Lexing.{IsLongestToken, bytes_of, words_of, word_of};
 ghost use Rattle.syn_form.specs.declared.syntax.Lexeme.{Lexeme};
 ghost use Rattle.syn_parse.specs.Lexemes.{IsWritten};
 ghost use Rattle.syn_parse.specs.inner.Spelling.{IsInside, NoLexeme, NoMark, NoNumber, Spell, Spells, row_word, word};
 
 use crate::marks::mark_of;
-use sqlite_items::Items;
+use crate::stack::Row;
 use std::alloc::Global;
 use syn_form::Lexeme;
 use syn_lex::{LexError, Token, TokenKind, tokens};
@@ -113,16 +113,12 @@ fn token_lexeme(alloc: Global, line: &[u8], token: Token) -> Result<Option<Lexem
 }
 
 /// The lexemes that the tokens of a line are; None where one of them is no lexeme.
-fn lexemes_in(
-    alloc: Global,
-    line: &[u8],
-    found: &[Token],
-) -> Result<Option<Items<Lexeme>>, NoMemory>
-    requires whole { All (IsWhole line.now) found.now }
+fn lexemes_in(alloc: Global, line: &[u8], found: &[Token]) -> Result<Option<Row<Lexeme>>, NoMemory>
+    requires whole { All (IsLongestToken line.now) found.now }
     requires inside { All (IsInside line.now) found.now }
     ensures { IfOk result (λ o. MatchOption o ((ls : List Lexeme) → Spell (words_of line.now found.now) ls → ⊥) (Spell (words_of line.now found.now))) }
 {
-    let mut lexemes = Items::new(alloc);
+    let mut lexemes = Row::new(alloc);
     for token in found {
         match token_lexeme(alloc, line, *token)? {
             None => return Ok(None),
@@ -134,7 +130,7 @@ fn lexemes_in(
 
 /// The lexemes that the text is one line of; None where it is not a line of lexemes. The one error
 /// is want of memory.
-pub(crate) fn lexemes_of(alloc: Global, text: &str) -> Result<Option<Items<Lexeme>>, NoMemory>
+pub(crate) fn lexemes_of(alloc: Global, text: &str) -> Result<Option<Row<Lexeme>>, NoMemory>
     ensures { IfOk result (λ o. MatchOption o ((ls : List Lexeme) → IsWritten text.now ls → ⊥) (IsWritten text.now)) }
 {
     let line = text.as_bytes();

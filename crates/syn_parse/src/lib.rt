@@ -2,7 +2,6 @@
 //! names in it stand for is not looked at.
 #![tactic(auto)]
 
-mod phrase_reader;
 mod form_frames;
 mod form_reader;
 mod item_reader;
@@ -12,8 +11,11 @@ mod limits;
 mod marks;
 mod out_reader;
 mod parse;
+mod phrase_reader;
+mod sink;
 mod stack;
 mod stop;
 mod syntaxes;
+mod term_reader;
 
 pub use parse::{parse_form, parse_out, parse_term};

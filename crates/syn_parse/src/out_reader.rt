@@ -8,9 +8,9 @@ use crate::form_frames::Tall;
 use crate::form_reader::FormReader;
 use crate::items::Item;
 use crate::limits::MAX_HEIGHT;
-use crate::stack::{Stack, boxes, stacked};
+use crate::sink::ItemSink;
+use crate::stack::{Stack, boxes};
 use crate::stop::Stop;
-use sqlite_items::Items;
 use std::alloc::Global;
 use std::mem;
 use syn_form::{Mark, OutSyntax, TermSyntax};
@@ -40,7 +40,7 @@ enum OutStage {
 
 /// What was read so far: the choices that are open, the innermost on top.
 #[derive(Drop)]
-struct OutReader {
+pub(crate) struct OutReader {
     arms: Stack<Arm>,
     stage: OutStage,
 }
@@ -80,7 +80,7 @@ fn given(t: TermSyntax) -> TallOut
 }
 
 impl OutReader {
-    fn new(alloc: Global) -> OutReader
+    pub(crate) fn new(alloc: Global) -> OutReader
         ensures { result ≡ machine.start }
     {
         OutReader {
@@ -169,7 +169,7 @@ impl OutReader {
         ensures { Leads result self.new (machine.test_next self.old.arms test item) }
     {
         let mut test = test;
-        match test.step(alloc, item) {
+        match test.take(alloc, item) {
             Ok(()) => {
                 self.stand(OutStage::Test(test));
                 Ok(())
@@ -223,26 +223,6 @@ impl OutReader {
         }
     }
 
-    /// The reader one item further.
-    fn step(&mut self, alloc: Global, item: Item) -> Result<(), Stop>
-        ensures { Leads result self.new (machine.step self.old item) }
-    {
-        match mem::replace(&mut self.stage, OutStage::Wanted) {
-            OutStage::Wanted => self.begun(alloc, item),
-            OutStage::Test(test) => self.tested(alloc, test, item),
-            OutStage::Here(u) => self.went_on(u, item),
-        }
-    }
-
-    fn run(&mut self, alloc: Global, items: &mut Stack<Item>) -> Result<(), Stop>
-        ensures { Leads result self.new (machine.run items.old self.old) }
-    {
-        while let Some(item) = items.pop() {
-            self.step(alloc, item)?;
-        }
-        Ok(())
-    }
-
     /// The output `u`, where no choice is open.
     fn whole(&mut self, u: TallOut) -> Result<OutSyntax, Stop>
         ensures { Makes result (machine.whole_with self.old.arms u) }
@@ -258,7 +238,7 @@ impl OutReader {
     }
 
     /// The output that was read, where no choice is open.
-    fn end(&mut self) -> Result<OutSyntax, Stop>
+    pub(crate) fn end(&mut self) -> Result<OutSyntax, Stop>
         ensures { Makes result (machine.ended self.old) }
     {
         match mem::replace(&mut self.stage, OutStage::Wanted) {
@@ -271,17 +251,14 @@ impl OutReader {
     }
 }
 
-/// The output that the items are.
-pub(crate) fn out_of_items(alloc: Global, items: Items<Item>) -> Result<OutSyntax, Stop>
-    ensures { Makes result (machine.parsed items) }
-{
-    let mut rest = stacked(alloc, items)?;
-    let mut reader = OutReader::new(alloc);
-    let out = match reader.run(alloc, &mut rest) {
-        Ok(()) => reader.end(),
-        Err(stop) => Err(stop),
-    };
-    drop(reader);
-    drop(rest);
-    out
+impl ItemSink for OutReader {
+    ghost takes = { machine.step };
+
+    fn take(&mut self, alloc: Global, item: Item) -> Result<(), Stop> {
+        match mem::replace(&mut self.stage, OutStage::Wanted) {
+            OutStage::Wanted => self.begun(alloc, item),
+            OutStage::Test(test) => self.tested(alloc, test, item),
+            OutStage::Here(u) => self.went_on(u, item),
+        }
+    }
 }

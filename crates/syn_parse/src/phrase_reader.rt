@@ -4,7 +4,7 @@ ghost use Rattle.std.specs.Prelude.{◌≡◌, ◌++◌, [], ◌∷◌, Some, If
 ghost use Rattle.syn_parse.specs.inner.Leads.{Leads, Makes};
 ghost use Rattle.syn_parse.specs.inner.PhraseMachine as machine;
 
-use crate::stack::{Stack, stacked};
+use crate::stack::{Row, Stack};
 use crate::stop::Stop;
 use sqlite_items::Items;
 use std::alloc::{AllocError, Global};
@@ -39,7 +39,7 @@ pub(crate) struct Binding {
 /// The phrases so far, and the quantifier that is open.
 #[derive(Drop)]
 pub(crate) struct PhraseReader {
-    pub(crate) done: Items<Phrase>,
+    pub(crate) done: Row<Phrase>,
     pub(crate) pending: Option<Binding>,
 }
 
@@ -79,7 +79,7 @@ impl PhraseReader {
         ensures { result ≡ machine.closed [] }
     {
         PhraseReader {
-            done: Items::new(alloc),
+            done: Row::new(alloc),
             pending: None,
         }
     }
@@ -255,21 +255,21 @@ impl PhraseReader {
     }
 
     /// The phrases, where no quantifier is open.
-    fn end(&mut self, alloc: Global) -> Result<Items<Phrase>, Stop>
+    fn end(&mut self, alloc: Global) -> Result<Row<Phrase>, Stop>
         ensures { Makes result (machine.ended self.old) }
     {
         match &self.pending {
-            None => Ok(mem::replace(&mut self.done, Items::new(alloc))),
+            None => Ok(mem::replace(&mut self.done, Row::new(alloc))),
             Some(_) => Err(Stop::Misplaced),
         }
     }
 }
 
 /// The phrases of a text from its words.
-pub(crate) fn phrases_of(alloc: Global, lexemes: Items<Lexeme>) -> Result<Items<Phrase>, Stop>
+pub(crate) fn phrases_of(alloc: Global, lexemes: Row<Lexeme>) -> Result<Row<Phrase>, Stop>
     ensures { Makes result (machine.phrases_of lexemes) }
 {
-    let mut rest = stacked(alloc, lexemes)?;
+    let mut rest = lexemes.into_stack();
     let mut reader = PhraseReader::new(alloc);
     let phrases = match reader.run(alloc, &mut rest) {
         Ok(()) => reader.end(alloc),

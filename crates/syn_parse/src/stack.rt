@@ -1,14 +1,32 @@
-// A stack that contracts see as a list with the top at its head.
-ghost use Rattle.std.specs.Prelude.{◌≡◌, [], ◌∷◌, OnOk, IfOk, MatchOption};
+// Lists that grow at their end and are then taken from their beginning, in the memory that they
+// have; and what serves values of any type.
+ghost use Rattle.std.specs.Prelude.{◌≡◌, [], ◌∷◌, ◌++◌, OnOk, IfOk, MatchOption};
 
 use sqlite_items::{Boxed, Items};
 use std::alloc::{AllocError, Global};
 use std::marker::Model;
 
+/// A list that grows at its end.
+#[derive(Drop)]
+pub(crate) struct Row<T> {
+    inner: Vec<T>,
+}
+
+impl<T> Model for Row<T> {
+    ghost use Rattle.std.specs.Prelude.{List};
+    ghost use Rattle.std.specs.Coded.{coded_list};
+
+    ghost Value = { List T };
+
+    ghost coded = { coded_list T.code };
+
+    ghost view = { λ r. r.inner.items };
+}
+
 /// A stack; contracts see the list of what is on it, the top first.
 #[derive(Drop)]
 pub(crate) struct Stack<T> {
-    inner: Items<T>,
+    inner: Vec<T>,
 }
 
 impl<T> Model for Stack<T> {
@@ -19,7 +37,33 @@ impl<T> Model for Stack<T> {
 
     ghost coded = { coded_list T.code };
 
-    ghost view = { λ s. reverse s.inner };
+    ghost view = { λ s. reverse s.inner.items };
+}
+
+impl<T: Drop> Row<T> {
+    pub(crate) fn new(alloc: Global) -> Row<T>
+        ensures { result ≡ [] }
+    {
+        Row {
+            inner: Vec::new(alloc),
+        }
+    }
+
+    pub(crate) fn push(&mut self, item: T) -> Result<(), AllocError>
+        ensures { OnOk result (self.new ≡ self.old ++ item ∷ []) }
+    {
+        self.inner.push(item)?;
+        Ok(())
+    }
+
+    /// The same list as a stack, its first item on top.
+    pub(crate) fn into_stack(self) -> Stack<T>
+        ensures { result ≡ self }
+    {
+        let Row { mut inner } = self;
+        inner.reverse();
+        Stack { inner }
+    }
 }
 
 impl<T: Drop> Stack<T> {
@@ -27,14 +71,15 @@ impl<T: Drop> Stack<T> {
         ensures { result ≡ [] }
     {
         Stack {
-            inner: Items::new(alloc),
+            inner: Vec::new(alloc),
         }
     }
 
     pub(crate) fn push(&mut self, item: T) -> Result<(), AllocError>
         ensures { OnOk result (self.new ≡ item ∷ self.old) }
     {
-        self.inner.push(item)
+        self.inner.push(item)?;
+        Ok(())
     }
 
     pub(crate) fn pop(&mut self) -> Option<T>
@@ -44,16 +89,14 @@ impl<T: Drop> Stack<T> {
     }
 }
 
-/// The items on a stack, the first on top.
-pub(crate) fn stacked<T: Drop>(alloc: Global, items: Items<T>) -> Result<Stack<T>, AllocError>
-    ensures { IfOk result (λ s. s ≡ items) }
+/// Takes the first item.
+pub(crate) fn first<T: Drop>(items: &mut Items<T>) -> Option<T>
+    ensures { MatchOption result ((items.old ≡ []) × (items.new ≡ [])) (λ x. items.old ≡ x ∷ items.new) }
 {
-    let mut rest = items;
-    let mut stack = Stack::new(alloc);
-    while let Some(last) = rest.pop() {
-        stack.push(last)?;
+    if items.is_empty() {
+        return None;
     }
-    Ok(stack)
+    Some(items.remove(0))
 }
 
 /// Two values in boxes.

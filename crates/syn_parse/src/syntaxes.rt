@@ -1,28 +1,21 @@
-// The syntax tree of a text, by the passes in a row: lexemes, phrases, items, and the tree.
+// The syntax tree of a text, by the passes in a row: lexemes, phrases, and from these the items one by
+// one to the reader of the tree.
 ghost use Rattle.std.specs.Prelude.{◌≡◌, Option, IfOk};
 ghost use Rattle.syn_parse.specs.inner.Leads.{Makes};
-ghost use Rattle.syn_parse.specs.inner.Passes.{Gives, alone_with, form_from, items_from, one_term, out_from, term_from};
+ghost use Rattle.syn_parse.specs.inner.Passes.{Gives, form_from, form_of, out_from, out_of, term_from, term_of};
+ghost use Rattle.syn_parse.specs.inner.PhraseMachine as machine;
 
-use crate::form_reader::form_of_items;
-use crate::item_reader::items_of;
-use crate::items::Item;
+use crate::form_reader::FormReader;
+use crate::item_reader::feed_items;
 use crate::lexemes::lexemes_of;
-use crate::out_reader::out_of_items;
-use crate::phrase_reader::phrases_of;
-use crate::stack::{Stack, stacked};
+use crate::out_reader::OutReader;
+use crate::phrase_reader::{Phrase, phrases_of};
+use crate::stack::Row;
 use crate::stop::Stop;
-use sqlite_items::Items;
+use crate::term_reader::TermReader;
 use std::alloc::Global;
-use syn_form::{FormSyntax, Lexeme, OutSyntax, TermSyntax};
+use syn_form::{FormSyntax, OutSyntax, TermSyntax};
 use syn_term::NoMemory;
-
-/// The items that the lexemes make up.
-fn items_of_lexemes(alloc: Global, lexemes: Items<Lexeme>) -> Result<Items<Item>, Stop>
-    ensures { Makes result (items_from lexemes) }
-{
-    let phrases = phrases_of(alloc, lexemes)?;
-    items_of(alloc, phrases)
-}
 
 /// What a reader answers: None where it stopped at a word.
 fn answer<T: Drop>(read: Result<T, Stop>) -> Result<Option<T>, NoMemory>
@@ -35,55 +28,59 @@ fn answer<T: Drop>(read: Result<T, Stop>) -> Result<Option<T>, NoMemory>
     }
 }
 
-/// The items of the text.
-fn items_in(alloc: Global, text: &str) -> Result<Option<Items<Item>>, NoMemory>
-    ensures { IfOk result (Gives items_from text.now) }
+/// The phrases of the text.
+fn phrases_in(alloc: Global, text: &str) -> Result<Option<Row<Phrase>>, NoMemory>
+    ensures { IfOk result (Gives machine.phrases_of text.now) }
 {
     match lexemes_of(alloc, text)? {
         None => Ok(None),
-        Some(lexemes) => answer(items_of_lexemes(alloc, lexemes)),
+        Some(lexemes) => answer(phrases_of(alloc, lexemes)),
     }
 }
 
-/// The one term that the items are.
-fn term_of_items(alloc: Global, items: Items<Item>) -> Result<TermSyntax, Stop>
-    ensures { Makes result (one_term items) }
+fn term_of_phrases(alloc: Global, phrases: Row<Phrase>) -> Result<TermSyntax, Stop>
+    ensures { Makes result (term_of phrases) }
 {
-    let mut rest = stacked(alloc, items)?;
-    match rest.pop() {
-        Some(Item::Term(t)) => alone(t, rest),
-        other => {
-            drop(other);
-            drop(rest);
-            Err(Stop::Misplaced)
-        }
-    }
+    let mut reader = TermReader::new();
+    let term = match feed_items(alloc, phrases, &mut reader) {
+        Ok(()) => reader.end(),
+        Err(stop) => Err(stop),
+    };
+    drop(reader);
+    term
 }
 
-/// The term, where nothing stands behind it.
-fn alone(term: TermSyntax, rest: Stack<Item>) -> Result<TermSyntax, Stop>
-    ensures { Makes result (alone_with term rest) }
+fn form_of_phrases(alloc: Global, phrases: Row<Phrase>) -> Result<FormSyntax, Stop>
+    ensures { Makes result (form_of phrases) }
 {
-    let mut rest = rest;
-    let more = rest.pop();
-    drop(rest);
-    match more {
-        None => Ok(term),
-        Some(item) => {
-            drop(item);
-            drop(term);
-            Err(Stop::Misplaced)
-        }
-    }
+    let mut reader = FormReader::new(alloc);
+    let form = match feed_items(alloc, phrases, &mut reader) {
+        Ok(()) => reader.end(alloc),
+        Err(stop) => Err(stop),
+    };
+    drop(reader);
+    form
+}
+
+fn out_of_phrases(alloc: Global, phrases: Row<Phrase>) -> Result<OutSyntax, Stop>
+    ensures { Makes result (out_of phrases) }
+{
+    let mut reader = OutReader::new(alloc);
+    let out = match feed_items(alloc, phrases, &mut reader) {
+        Ok(()) => reader.end(),
+        Err(stop) => Err(stop),
+    };
+    drop(reader);
+    out
 }
 
 /// The syntax tree of a text that is one term; None where it is none, or one that is too high.
 pub(crate) fn term_syntax(alloc: Global, text: &str) -> Result<Option<TermSyntax>, NoMemory>
     ensures { IfOk result (Gives term_from text.now) }
 {
-    match items_in(alloc, text)? {
+    match phrases_in(alloc, text)? {
         None => Ok(None),
-        Some(items) => answer(term_of_items(alloc, items)),
+        Some(phrases) => answer(term_of_phrases(alloc, phrases)),
     }
 }
 
@@ -91,9 +88,9 @@ pub(crate) fn term_syntax(alloc: Global, text: &str) -> Result<Option<TermSyntax
 pub(crate) fn form_syntax(alloc: Global, text: &str) -> Result<Option<FormSyntax>, NoMemory>
     ensures { IfOk result (Gives form_from text.now) }
 {
-    match items_in(alloc, text)? {
+    match phrases_in(alloc, text)? {
         None => Ok(None),
-        Some(items) => answer(form_of_items(alloc, items)),
+        Some(phrases) => answer(form_of_phrases(alloc, phrases)),
     }
 }
 
@@ -101,8 +98,8 @@ pub(crate) fn form_syntax(alloc: Global, text: &str) -> Result<Option<FormSyntax
 pub(crate) fn out_syntax(alloc: Global, text: &str) -> Result<Option<OutSyntax>, NoMemory>
     ensures { IfOk result (Gives out_from text.now) }
 {
-    match items_in(alloc, text)? {
+    match phrases_in(alloc, text)? {
         None => Ok(None),
-        Some(items) => answer(out_of_items(alloc, items)),
+        Some(phrases) => answer(out_of_phrases(alloc, phrases)),
     }
 }

@@ -1,4 +1,5 @@
 pub mod Trees
+pub mod Positions
 pub mod Same
 pub mod Banks
 pub mod Lists
@@ -19,6 +20,7 @@ pub mod TokenLaws
 pub mod TokenBegins
 pub mod WholeTokens
 pub mod StartCases
+pub mod Accounts
 pub mod Spaced
 pub mod BeginsCases
 pub mod OneSpelling
@@ -29,3 +31,4 @@ pub mod KeyLemmas
 pub mod SortLemmas
 pub mod TableLaws
 pub mod Indexed
+pub mod Copies

@@ -50,10 +50,10 @@ last_is_new t s h has =
     let within : has.0 < length t.syms = slice_get_within t.syms has.0 there.0 there.1 in
     omega arith
   where
-  slice_get-named : (xs : List Sym) (k : ℕ) (n : List ℕ) → k < length (map (λ (x : Sym). x.name) xs) → get_or (map (λ (x : Sym). x.name) xs) k n ≡ n → (x : Sym) × (slice_get xs k ≡ Some x) × (x.name ≡ n)
-  slice_get-named [] k n lt e = absurd (omega arith)
-  slice_get-named (x ∷ xs) zero n lt e = (x, refl, e)
-  slice_get-named (x ∷ xs) (suc k) n lt e = slice_get-named xs k n (omega arith) e
+    slice_get-named : (xs : List Sym) (k : ℕ) (n : List ℕ) → k < length (map (λ (x : Sym). x.name) xs) → get_or (map (λ (x : Sym). x.name) xs) k n ≡ n → (x : Sym) × (slice_get xs k ≡ Some x) × (x.name ≡ n)
+    slice_get-named [] k n lt e = absurd (omega arith)
+    slice_get-named (x ∷ xs) zero n lt e = (x, refl, e)
+    slice_get-named (x ∷ xs) (suc k) n lt e = slice_get-named xs k n (omega arith) e
 
 pub names_before : (t : SymbolTable) (s : Sym) → HasDistinctNames (with_symbol t s) → HasDistinctNames t
 names_before t s h i j a b at_i at_j e =
@@ -177,10 +177,11 @@ table_tuple t name make parts h may =
     (shapes_grow t (with_tuple t name make parts) y h.shapes (IsPrefix-with_tuple t name make parts) refl
     (may.there, may.few.0, may.few.1, record { name = make; is = at_next t.syms s }))
   where
-  some : FitsResult kind.Tuple (Some (next_sort t))
-  some = (search)
-  at_next : (xs : List Sym) (x : Sym) → slice_get (xs ++ x ∷ []) (length xs + 0) ≡ Some x
-  at_next xs x = let e : length xs + 0 ≡ length xs = omega arith in ap (slice_get (xs ++ x ∷ [])) e ∙ last_at xs x
+    some : FitsResult kind.Tuple (Some (next_sort t))
+    some = (search)
+
+    at_next : (xs : List Sym) (x : Sym) → slice_get (xs ++ x ∷ []) (length xs + 0) ≡ Some x
+    at_next xs x = let e : length xs + 0 ≡ length xs = omega arith in ap (slice_get (xs ++ x ∷ [])) e ∙ last_at xs x
 
 -- a list sort that may be declared
 pub table_list : (t : SymbolTable) (name nil cons : List ℕ) (item : Sort) → IsTable t → MayAddList t name nil cons item → IsTable (with_list t name nil cons item)
@@ -200,16 +201,18 @@ table_list t name nil cons item h may =
     (shapes_grow t (with_list t name nil cons item) y h.shapes (IsPrefix-with_list t name nil cons item) refl
     (may.there, record { name = nil; is = first t.syms a b }, record { name = cons; is = second t.syms a b }))
   where
-  some : FitsResult kind.Nil (Some (next_sort t))
-  some = (search)
-  first : (xs : List Sym) (x y : Sym) → slice_get ((xs ++ x ∷ []) ++ y ∷ []) (length xs + 0) ≡ Some x
-  first xs x y =
-      let e : length xs + 0 ≡ length xs = omega arith in
-      ap (slice_get ((xs ++ x ∷ []) ++ y ∷ [])) e ∙ slice_get-append (xs ++ x ∷ []) (y ∷ []) (length xs) x (last_at xs x)
-  second : (xs : List Sym) (x y : Sym) → slice_get ((xs ++ x ∷ []) ++ y ∷ []) (length xs + 1) ≡ Some y
-  second xs x y =
-      let e : length xs + 1 ≡ length (xs ++ x ∷ []) = sym (length-append xs (x ∷ [])) in
-      ap (slice_get ((xs ++ x ∷ []) ++ y ∷ [])) e ∙ last_at (xs ++ x ∷ []) y
+    some : FitsResult kind.Nil (Some (next_sort t))
+    some = (search)
+
+    first : (xs : List Sym) (x y : Sym) → slice_get ((xs ++ x ∷ []) ++ y ∷ []) (length xs + 0) ≡ Some x
+    first xs x y =
+        let e : length xs + 0 ≡ length xs = omega arith in
+        ap (slice_get ((xs ++ x ∷ []) ++ y ∷ [])) e ∙ slice_get-append (xs ++ x ∷ []) (y ∷ []) (length xs) x (last_at xs x)
+
+    second : (xs : List Sym) (x y : Sym) → slice_get ((xs ++ x ∷ []) ++ y ∷ []) (length xs + 1) ≡ Some y
+    second xs x y =
+        let e : length xs + 1 ≡ length (xs ++ x ∷ []) = sym (length-append xs (x ∷ [])) in
+        ap (slice_get ((xs ++ x ∷ []) ++ y ∷ [])) e ∙ last_at (xs ++ x ∷ []) y
 
 -- and the table that every problem begins with
 abbrev empty : SymbolTable
@@ -218,10 +221,10 @@ empty = record { syms = []; sorts = [] }
 empty_sorts : HasDistinctSorts empty
 empty_sorts = record { sorts = one; symbols = λ a n at has. omega (arith, has.1) }
   where
-  one : (a b : Sort) (n : List ℕ) → name_of_sort empty a ≡ Some n → name_of_sort empty b ≡ Some n → a ≡ b
-  one Nat Nat n e f = refl
-  one Nat (Named k) n e f = absurd (cc)
-  one (Named k) b n e f = absurd (cc)
+    one : (a b : Sort) (n : List ℕ) → name_of_sort empty a ≡ Some n → name_of_sort empty b ≡ Some n → a ≡ b
+    one Nat Nat n e f = refl
+    one Nat (Named k) n e f = absurd (cc)
+    one (Named k) b n e f = absurd (cc)
 
 new_in_empty : (n : List ℕ) → n ≢ codes "nat" → IsNew empty n
 new_in_empty n other = record { free = λ taken. ⊎_elim (λ has. omega (arith, has.1)) (λ any. omega (arith, any.2)) taken; other = other }
@@ -254,5 +257,5 @@ table_first =
       sorts = apart_symbol t succ_symbol (apart_symbol empty zero_symbol empty_sorts zero_new) succ_new;
     }
   where
-  some : FitsResult kind.Zero (Some Nat)
-  some = (search)
+    some : FitsResult kind.Zero (Some Nat)
+    some = (search)

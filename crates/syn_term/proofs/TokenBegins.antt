@@ -204,10 +204,10 @@ name_begins word rest w short p =
     begins_there (word ++ rest) (get_or (word ++ rest) 0 0) refl (omega arith) l.blank l.comment
     ∙ (at_letter (word ++ rest) l ∙ some_is kind.Name (name_len (word ++ rest)) (length word) (name_is word rest w short (no_word rest p)) some)
 
-digit_blank : (b : ℕ) → is_ascii_digit b ≡ true → is_blank b ≡ false
+pub digit_blank : (b : ℕ) → is_ascii_digit b ≡ true → is_blank b ≡ false
 digit_blank b h = grind (arith, nat_tests)
 
-digit_comment : (b : ℕ) → is_ascii_digit b ≡ true → nat_eq b 35 ≡ false
+pub digit_comment : (b : ℕ) → is_ascii_digit b ≡ true → nat_eq b 35 ≡ false
 digit_comment b h = grind (arith, nat_tests)
 
 number_begins : (number rest : List ℕ) → IsDigits number → is_ascii_digit (get_or rest 0 0) ≡ false → starts (number ++ rest) ≡ token kind.Number (length number)

@@ -1,5 +1,6 @@
 -- The equations of the functions of trees at a variable and at a symbol with arguments.
 use Rattle.std.proofs.Common.{◌≡◌, ℕ, ◌+◌, ◌-◌, ◌≤◌, ◌<◌, min, max, sum, List, [], ◌∷◌, map, length, ◌++◌, take, get_or, refl, sym, ◌∙◌, ap, subst, arith, rules, IsTrue, Bool, true, false, not, nat_eq}
+use Rattle.std.specs.Ordering.{nat_cmp, ord_max}
 use Rattle.std.proofs.lemmas.Bool.Decides.{nat_tests}
 use Rattle.syn_term.specs.declared.sorts.SymId.{SymId}
 use Rattle.syn_term.specs.declared.sorts.Var.{Var}
@@ -30,9 +31,14 @@ pub greatest-append : (xs ys : List ℕ) → greatest (xs ++ ys) ≡ max (greate
 greatest-append [] ys = omega arith
 greatest-append (x ∷ xs) ys = let e = greatest-append xs ys in omega arith
 
+-- the greater of two numbers, as the code asks for it
+greater_is : (a b : ℕ) → ord_max nat_cmp a b ≡ max a b
+greater_is a b = grind (arith, nat_tests)
+
 -- one argument more in the search for the deepest
-pub depth_more : (xs : List Node) (i : ℕ) (d x : Node) (most deepest depth found : ℕ) → i < length xs → x ≡ get_or xs i d → deepest ≡ min (greatest (map depth_of (take i xs))) most → depth ≡ min (depth_of x) most → found ≡ max deepest depth → found ≡ min (greatest (map depth_of (take (i + 1) xs))) most
-depth_more xs i d x most deepest depth found lt is a b e =
+pub depth_more : (xs : List Node) (i : ℕ) (d x : Node) (most deepest depth found : ℕ) → i < length xs → x ≡ get_or xs i d → deepest ≡ min (greatest (map depth_of (take i xs))) most → depth ≡ min (depth_of x) most → found ≡ ord_max nat_cmp deepest depth → found ≡ min (greatest (map depth_of (take (i + 1) xs))) most
+depth_more xs i d x most deepest depth found lt is a b larger =
+    let e : found ≡ max deepest depth = larger ∙ greater_is deepest depth in
     let more : map depth_of (take (i + 1) xs) ≡ map depth_of (take i xs) ++ depth_of x ∷ [] = ap (map depth_of) (take_more xs i d lt) ∙ (map-append depth_of (take i xs) (get_or xs i d ∷ []) ∙ ap (λ (z : Node). map depth_of (take i xs) ++ depth_of z ∷ []) (sym is)) in
     let m : greatest (map depth_of (take (i + 1) xs)) ≡ max (greatest (map depth_of (take i xs))) (max (depth_of x) 0) = ap greatest more ∙ greatest-append (map depth_of (take i xs)) (depth_of x ∷ []) in omega arith
 

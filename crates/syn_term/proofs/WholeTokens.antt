@@ -21,12 +21,12 @@ use Rattle.syn_term.proofs.TokenLaws.{Letter, letter_of, at_digit, at_row, at_sk
 use Rattle.syn_term.proofs.TokenBegins.{number_is, row_of, skolem_whole}
 
 -- the first byte of a word at the front
-first_letter : (rest : List ℕ) (m : ℕ) → m ≤ length rest → IsWord (take m rest) → Letter (get_or rest 0 0)
+pub first_letter : (rest : List ℕ) (m : ℕ) → m ≤ length rest → IsWord (take m rest) → Letter (get_or rest 0 0)
 first_letter rest m le w =
     let some : 0 < m = subst (λ (z : ℕ). 0 < z) (length-take-le m rest le) (word_nonempty (take m rest) w) in
     subst Letter (get_or-take m rest 0 0 some) (letter_of (take m rest) w)
 
-token_word : (bytes : List ℕ) → IsToken kind.Name bytes → IsWord bytes
+pub token_word : (bytes : List ℕ) → IsToken kind.Name bytes → IsWord bytes
 token_word bytes h = ⊎_elim (λ named. name_is_word bytes named) (λ known. (reserved_word bytes known).0) h
 
 -- a token is not cut off

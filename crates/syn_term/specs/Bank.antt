@@ -1,9 +1,12 @@
--- What contracts see of a bank, and which terms are a bank's own.
-use Rattle.std.specs.Prelude.{◌≡◌, ℕ, ◌+◌, ◌-◌, ◌^◌, ◌≤◌, min, List, [], Some, refl}
+-- In public contracts: what contracts see of a bank, and which terms are a bank's own. Whether a term belongs is told by
+-- the laws below alone: no other module may look into what `Belongs`, `Agree` and `Extends` say.
+use Rattle.std.specs.Prelude.{◌≡◌, ℕ, ◌+◌, ◌-◌, ◌^◌, ◌≤◌, min, List, [], Some, All, refl}
 use Rattle.std.proofs.Common.{◌∙◌}
 use Rattle.std.proofs.Math.Nat.{le_refl, le_trans}
-use Rattle.syn_term.specs.declared.term.Node.{Node}
-use Rattle.syn_term.specs.Terms.{TermTree, child}
+use Rattle.syn_term.specs.declared.term.Place.{Place}
+use Rattle.syn_term.specs.declared.term.Node.{Node, out-Node}
+use Rattle.syn_term.specs.declared.term.Node.TheOpen.{Node-F}
+use Rattle.syn_term.specs.Terms.{TermTree, args_of, child}
 
 -- the number of nodes made, which stays at its last value once it has reached it, and the trees that the bank keeps
 pub record Kept : Type 0 where
@@ -30,6 +33,19 @@ Belongs b t = Unit {0}
 pub Agree : TermTree → TermTree → Type 0
 Agree t u = Unit {0}
 
+abbrev place_layer : Node-F Node → Place
+place_layer (Node-F.Var place v) = place
+place_layer (Node-F.App place f args) = place
+
+-- where a bank put the node at the top; no public contract tells it
+abbrev pub place_of : TermTree → Place
+place_of t = place_layer (out-Node t)
+
+-- a node that is put at the next place, over arguments that belong, belongs to the bank with one node more
+pub Belongs-made : (b : Kept) (t : TermTree) → (place_of t).number ≡ b.made → All (Belongs b) (args_of t) → Belongs (one_more b) t
+unfolding Belongs
+Belongs-made b t at args = tt
+
 -- a subterm belongs where its term does
 pub Belongs-child : (b : Kept) (t c : TermTree) (k : ℕ) → child t k ≡ Some c → Belongs b t → Belongs b c
 unfolding Belongs
@@ -55,17 +71,7 @@ pub Extends-trans : (a b c : Kept) → Extends a b → Extends b c → Extends a
 unfolding Extends
 Extends-trans a b c h k = (le_trans h.0 k.0, h.1 ∙ k.1)
 
--- the number of nodes made never falls
-pub Extends-made : (a b : Kept) → Extends a b → a.made ≤ b.made
-unfolding Extends
-Extends-made a b h = h.0
-
--- the converse of its two parts
+-- a bank that has made no fewer nodes and keeps the same trees comes after
 pub Extends-of : (a b : Kept) → a.made ≤ b.made → a.trees ≡ b.trees → Extends a b
 unfolding Extends
 Extends-of a b h k = (h, k)
-
--- what this crate's own calls rest on while each term belongs; no other crate may cite it
-pub Belongs-always : (b : Kept) (t : TermTree) → Belongs b t
-unfolding Belongs
-Belongs-always b t = tt

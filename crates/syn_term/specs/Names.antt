@@ -1,3 +1,4 @@
+-- In public contracts: which texts are names, and which are names of Skolem symbols.
 use Rattle.std.specs.Prelude.{◌≡◌, ℕ, ◌<◌, ◌≤◌, ◌^◌, ◌⊎◌, ◌++◌, ◌||◌, ◌==◌, Bool, List, [], ◌∷◌, IsTrue, Contains, codes, decimal, length}
 use Rattle.std.specs.Char.{is_ascii_alphanumeric}
 use Rattle.std.specs.Str.{IsUtf8, chars}

@@ -1,6 +1,6 @@
--- Whether two trees are one, as a truth value. The kit gives each value of a Rust type a code, one to one, in binary
--- trees of numbers; two trees are one where their codes are.
-use Rattle.std.specs.Prelude.{Bool, true, false, ◌&&◌, nat_eq}
+-- In public contracts: whether two trees are one, as a truth value. The kit gives each value of a Rust type a code, one to
+-- one, in binary trees of numbers; two trees are one where their codes are.
+use Rattle.std.specs.Prelude.{◌≡◌, ◌↔◌, Bool, IsTrue, true, false, ◌&&◌, nat_eq}
 use base.Stored.{Gv, gnil, gnum, gcons}
 use Rattle.syn_term.specs.contracts.term.Node.{the_row}
 use Rattle.syn_term.specs.Terms.{TermTree, bare}
@@ -14,3 +14,7 @@ same_code _ _ = false
 -- whether the two terms are one tree, their places left out
 unfoldable pub same_tree : TermTree → TermTree → Bool
 same_tree t u = same_code (the_row.coded.code (bare t)) (the_row.coded.code (bare u))
+
+-- two terms are one tree exactly where they are equal with places left out
+abbrev pub TellsTerms : Type 0
+TellsTerms = (t u : TermTree) → IsTrue (same_tree t u) ↔ (bare t ≡ bare u)

@@ -1,3 +1,4 @@
+-- In public contracts: the table of symbols, and what it takes to add a symbol to it.
 use Rattle.std.specs.Prelude.{◌≡◌, ◌⊎◌, ℕ, ◌<◌, List, [], ◌∷◌, ◌++◌, Option, Some, IsNone, IsSome, IfSome, All, Any, Contains, codes, length, map, slice_get}
 use Rattle.syn_term.specs.declared.sorts.Kind.{Kind}
 use Rattle.syn_term.specs.declared.sorts.Kind.TheVariants.{Zero, Succ, Nil, Cons, Tuple, Rel, Order, Input, Skolem}

@@ -1,4 +1,4 @@
--- Terms as trees: their parts, their numbers, and when two of them are one tree.
+-- In public contracts: terms as trees, their parts, their numbers, and when two of them are one tree.
 use Rattle.std.specs.Prelude.{◌≡◌, ℕ, zero, suc, ◌+◌, ◌≢◌, max, sum, List, [], ◌∷◌, Option, None, Some, map, slice_get}
 use Rattle.std.specs.Option.{option_and_then}
 use Rattle.syn_term.specs.declared.sorts.Sort.{Sort}

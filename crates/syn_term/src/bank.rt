@@ -1,15 +1,17 @@
 // The bank, which makes every node of a term: so no term has a symbol that isn't in its table, or
 // arguments of other sorts.
-ghost use Rattle.std.specs.Prelude.{◌≡◌, ◌≢◌, ◌↔◌, ◌+◌, ◌≤◌, map, All, IsTrue, IfOk, IfSome, MatchOption, Some};
+ghost use Rattle.std.specs.Prelude.{◌≡◌, ◌≢◌, ◌↔◌, ◌+◌, ◌≤◌, [], map, length, slice_set, All, IsTrue, IfOk, OnOk, IfNone, IfSome, MatchOption};
 ghost use Rattle.syn_term.specs.declared.sorts.Kind.TheVariants as kinds;
 ghost use Rattle.syn_term.specs.Bank.{Belongs, Extends, new_bank, one_more};
-ghost use Rattle.syn_term.specs.Terms.{IsApplication, application, bare, sort_of, variable_tree};
+ghost use Rattle.syn_term.specs.Positions.{MayReplace, replaced_at, with_child, with_nth};
+ghost use Rattle.syn_term.specs.Terms.{IsApplication, application, bare, variable_tree};
 
 use crate::memory::NoMemory;
 use crate::pointer::Shared;
-use crate::sorts::{Kind, Sort, SymId, Var};
+use crate::pos::Pos;
+use crate::sorts::{Kind, SymId, Var};
 use crate::symbols::Symbols;
-use crate::term::{Node, Place, Term};
+use crate::term::{Node, Place, Term, have_sorts};
 use sqlite_items::Items;
 use std::alloc::Global;
 use std::marker::Model;
@@ -97,6 +99,84 @@ impl Bank {
         let place = self.place();
         Ok(Some(Shared::new(alloc, Node::App(place, f, args))?))
     }
+
+    /// The term with a new subterm at the position; None exactly where nothing stands there or what
+    /// stands there is of another sort, and then nothing is made. What stands beside the way is kept
+    /// and not made again, so no more nodes are made than the position has numbers: at the root none.
+    #[tactic(auto, using(crate::proofs::Banks::banks))]
+    pub fn replace_at(
+        &mut self,
+        alloc: Global,
+        syms: &Symbols,
+        t: &Term,
+        p: &Pos,
+        new: &Term,
+    ) -> Result<Option<Term>, NoMemory>
+        requires t { Belongs self.old t.now }
+        requires new { Belongs self.old new.now }
+        ensures tree { IfOk result (λ o. MatchOption o (¬ (MayReplace syms.now t.now p.now new.now)) (λ r. MayReplace syms.now t.now p.now new.now × (bare r ≡ bare (replaced_at p.now new.now t.now)))) }
+        ensures none { IfOk result (λ o. IfNone o (self.new ≡ self.old)) }
+        ensures made { self.new.made ≤ self.old.made + length p.now }
+        ensures extends { Extends self.old self.new }
+        ensures belongs { IfOk result (λ o. IfSome o (Belongs self.new)) }
+    {
+        if !may_replace(syms, t, p, new) {
+            return Ok(None);
+        }
+        let replaced = self.replaced(alloc, t, p.as_slice(), new)?;
+        Ok(Some(replaced))
+    }
+
+    /// The term with a new subterm at the end of the way; where nothing stands there, as it is.
+    #[tactic(auto, using(crate::proofs::Banks::banks))]
+    fn replaced(
+        &mut self,
+        alloc: Global,
+        t: &Term,
+        path: &[u32],
+        new: &Term,
+    ) -> Result<Term, NoMemory>
+        requires t { Belongs self.old t.now }
+        requires new { Belongs self.old new.now }
+        ensures tree { IfOk result (λ r. bare r ≡ bare (replaced_at path.now new.now t.now)) }
+        ensures made { self.new.made ≤ self.old.made + length path.now }
+        ensures extends { Extends self.old self.new }
+        ensures belongs { IfOk result (Belongs self.new) }
+    {
+        match path {
+            [] => Ok(new.again()?),
+            [k, rest @ ..] => match t.arg(*k) {
+                None => Ok(t.again()?),
+                Some(child) => {
+                    let child = self.replaced(alloc, child, rest, new)?;
+                    self.with_arg(alloc, t, *k, child)
+                }
+            },
+        }
+    }
+
+    /// The term with another k-th argument.
+    #[tactic(auto, using(crate::proofs::Banks::banks))]
+    fn with_arg(&mut self, alloc: Global, t: &Term, k: u32, child: Term) -> Result<Term, NoMemory>
+        requires t { Belongs self.old t.now }
+        requires child { Belongs self.old child }
+        ensures tree { IfOk result (λ r. bare r ≡ bare (with_child t.now k child)) }
+        ensures made { self.new.made ≤ self.old.made + 1 }
+        ensures extends { Extends self.old self.new }
+        ensures belongs { IfOk result (Belongs self.new) }
+    {
+        match t.get() {
+            Node::Var(_, _) => {
+                drop(child);
+                Ok(t.again()?)
+            }
+            Node::App(_, f, args) => {
+                let args = with_item(alloc, args.as_slice(), k, child)?;
+                let place = self.place();
+                Ok(Shared::new(alloc, Node::App(place, *f, args))?)
+            }
+        }
+    }
 }
 
 /// The same terms once more.
@@ -104,10 +184,23 @@ fn shared(alloc: Global, terms: &[Term]) -> Result<Items<Term>, NoMemory>
     ensures { IfOk result (λ items. items ≡ terms.now) }
 {
     let mut items = Items::new(alloc);
+    match push_shared(terms, &mut items) {
+        Ok(()) => Ok(items),
+        Err(error) => {
+            drop(items);
+            Err(error)
+        }
+    }
+}
+
+fn push_shared(terms: &[Term], items: &mut Items<Term>) -> Result<(), NoMemory>
+    requires { items.old ≡ [] }
+    ensures { OnOk result (items.new ≡ terms.now) }
+{
     for term in terms {
         items.push(term.again()?)?;
     }
-    Ok(items)
+    Ok(())
 }
 
 /// Whether the symbol may be applied to the arguments.
@@ -127,25 +220,47 @@ fn is_function(kind: Kind) -> bool
     !matches!(kind, Kind::Rel | Kind::Order)
 }
 
-/// Whether the terms have these sorts, one for one.
-fn have_sorts(syms: &Symbols, terms: &[Term], sorts: &[Sort]) -> bool
-    ensures { IsTrue result ↔ (map (sort_of syms.now) terms.now ≡ map Some sorts.now) }
+/// Whether the subterm at the position may be replaced by the new term.
+fn may_replace(syms: &Symbols, t: &Term, p: &Pos, new: &Term) -> bool
+    ensures { IsTrue result ↔ MayReplace syms.now t.now p.now new.now }
 {
-    if terms.len() != sorts.len() {
-        return false;
+    match t.at(p) {
+        None => false,
+        Some(old) => old.sort_in(syms) == new.sort_in(syms),
     }
-    for i in 0..terms.len() {
-        let sort = sorts[i];
-        if !has_sort(syms, &terms[i], sort) {
-            return false;
-        }
-    }
-    true
 }
 
-/// Whether the term has this sort.
-fn has_sort(syms: &Symbols, term: &Term, sort: Sort) -> bool
-    ensures { IsTrue result ↔ (sort_of syms.now term.now ≡ Some sort) }
+/// The terms with another one at k, counted from 1; where there is none, as they are.
+fn with_item(alloc: Global, terms: &[Term], k: u32, term: Term) -> Result<Items<Term>, NoMemory>
+    ensures { IfOk result (λ items. items ≡ with_nth terms.now k term) }
 {
-    term.sort_in(syms) == Some(sort)
+    match shared(alloc, terms) {
+        Ok(mut items) => {
+            put_item(&mut items, k, term);
+            Ok(items)
+        }
+        Err(error) => {
+            drop(term);
+            Err(error)
+        }
+    }
+}
+
+fn put_item(items: &mut Items<Term>, k: u32, term: Term)
+    ensures { items.new ≡ with_nth items.old k term }
+{
+    match k.checked_sub(1) {
+        None => drop(term),
+        Some(index) => put_at(items, index as usize, term),
+    }
+}
+
+fn put_at(items: &mut Items<Term>, index: usize, term: Term)
+    ensures { items.new ≡ slice_set items.old index term }
+{
+    if index < items.len() {
+        items.set(index, term);
+    } else {
+        drop(term);
+    }
 }

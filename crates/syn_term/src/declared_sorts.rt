@@ -224,7 +224,14 @@ impl Symbols {
         ensures err { OnErr result (self.new ≡ self.old) }
         ensures table { IsTable self.new }
     {
-        match push_room(&mut self.by_name, 1, &mut self.sorts, &mut self.sizes, sort, size) {
+        match push_room(
+            &mut self.by_name,
+            1,
+            &mut self.sorts,
+            &mut self.sizes,
+            sort,
+            size,
+        ) {
             Ok(()) => {
                 let (key, sym) = make;
                 put(&mut self.by_name, key, sym);
@@ -252,7 +259,14 @@ impl Symbols {
         ensures err { OnErr result (self.new ≡ self.old) }
         ensures table { IsTable self.new }
     {
-        match push_room(&mut self.by_name, 2, &mut self.sorts, &mut self.sizes, sort, size) {
+        match push_room(
+            &mut self.by_name,
+            2,
+            &mut self.sorts,
+            &mut self.sizes,
+            sort,
+            size,
+        ) {
             Ok(()) => {
                 let ((key, sym), second) = makers;
                 put(&mut self.by_name, key, sym);

@@ -3,6 +3,7 @@
 #![tactic(auto)]
 
 mod bank;
+mod copying;
 mod declared_sorts;
 mod memory;
 mod names;
@@ -21,6 +22,6 @@ pub use pointer::Shared;
 pub use pos::Pos;
 pub use sorts::{Head, Kind, NamedSort, Shape, Sort, Sym, SymId, Var};
 pub use symbols::Symbols;
-pub use term::{Node, Place, Term};
+pub use term::{Node, Place, Term, have_sorts};
 pub use text::Text;
 pub use tokens::TokenKind;

@@ -9,8 +9,10 @@ ghost use Rattle.syn_term.specs.Names.{reserved, Starts, IsName, IsTag, IsNumber
 use itoa::Buffer;
 use unicode_ident::{is_xid_continue, is_xid_start};
 
+// The most bytes of a name.
 const MAX_NAME_BYTES: usize = 64;
 
+// The first number with more digits than the name of a Skolem symbol may have.
 const NUMBER_END: u32 = 10_000_000;
 
 const RESERVED: [&[u8]; 15] = [
@@ -106,40 +108,5 @@ pub fn is_skolem_name(text: &str) -> bool
             None => false,
             Some((tag, number)) => is_tag(tag) && is_number(number),
         },
-    }
-}
-
-#[cfg(test)]
-mod tests {
-    use super::*;
-
-    #[test]
-    fn tells_names(rt: HostRuntime) {
-        let longest = "a23456789_123456789_123456789_123456789_123456789_123456789_1234";
-        let too_long = "a23456789_123456789_123456789_123456789_123456789_123456789_12345";
-        for name in ["λόγος", "間隙", "a_1", longest, "nats"] {
-            assert!(rt; is_name(name));
-        }
-        for text in ["", "_a", "\u{301}a", "1a", "a.b", "nat", "induct", too_long] {
-            assert!(rt; !is_name(text));
-        }
-    }
-
-    #[test]
-    fn tells_skolem_names(rt: HostRuntime) {
-        for name in ["!gap.1", "!induct.2", "!goal.9999999", "!λ.10"] {
-            assert!(rt; is_skolem_name(name));
-        }
-        for text in [
-            "!gap.0",
-            "!gap.01",
-            "!gap.",
-            "gap.1",
-            "!gap.10000000",
-            "!nat.1",
-            "!gap.+1",
-        ] {
-            assert!(rt; !is_skolem_name(text));
-        }
     }
 }

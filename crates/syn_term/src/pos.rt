@@ -53,20 +53,3 @@ impl Pos {
         self.steps.as_slice()
     }
 }
-
-#[cfg(test)]
-mod tests {
-    use super::*;
-    use std::test::Fail;
-
-    #[test]
-    fn goes_on_beyond_eight(rt: HostRuntime) -> Result<(), Fail> {
-        let mut pos = Pos::root(rt.alloc());
-        assert!(rt; pos.as_slice().is_empty());
-        for k in 1..10 {
-            pos.push(k)?;
-        }
-        assert_eq!(rt; pos.as_slice(), &[1, 2, 3, 4, 5, 6, 7, 8, 9][..]);
-        Ok(())
-    }
-}

@@ -163,6 +163,16 @@ pub(crate) fn enter(by_name: &mut IndexMap<String, Sym>, sym: Sym) -> Result<Sym
     }
 }
 
+// The symbol that was entered so many after the first.
+pub(crate) fn nth_symbol(by_name: &IndexMap<String, Sym>, index: usize) -> Option<&Sym>
+    ensures { option_copied result ≡ slice_get (values by_name.now) index }
+{
+    match by_name.get_index(index) {
+        None => None,
+        Some((_, sym)) => Some(sym),
+    }
+}
+
 // Enters `0` and `s` into a hash table that is empty.
 fn enter_first(alloc: Global, by_name: &mut IndexMap<String, Sym>) -> Result<(), NoMemory>
     requires { by_name.old.entries ≡ [] }
@@ -170,7 +180,10 @@ fn enter_first(alloc: Global, by_name: &mut IndexMap<String, Sym>) -> Result<(),
 {
     let nat = Some(Sort::Nat);
     enter(by_name, make_sym(alloc, "0", Kind::Zero, &[], nat)?)?;
-    enter(by_name, make_sym(alloc, "s", Kind::Succ, &[Sort::Nat], nat)?)?;
+    enter(
+        by_name,
+        make_sym(alloc, "s", Kind::Succ, &[Sort::Nat], nat)?,
+    )?;
     Ok(())
 }
 
@@ -296,9 +309,6 @@ impl Symbols {
         ensures symbol { option_copied result ≡ symbol_at self.now id }
         ensures table { IsTable self.now }
     {
-        match self.by_name.get_index(id.0 as usize) {
-            None => None,
-            Some((_, sym)) => Some(sym),
-        }
+        nth_symbol(&self.by_name, id.0 as usize)
     }
 }

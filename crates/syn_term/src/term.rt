@@ -3,9 +3,12 @@
 ghost use Rattle.std.specs.Prelude.{◌≡◌, ◌↔◌, ◌+◌, ◌<◌, max, min, map, IsTrue, IsSome, Some};
 ghost use Rattle.std.specs.Option.{option_copied};
 ghost use Rattle.syn_term.specs.Bank.{Agree};
+ghost use Rattle.syn_term.specs.Positions.{subterm_at};
+ghost use Rattle.syn_term.specs.Same.{TellsTerms};
 ghost use Rattle.syn_term.specs.Terms.{bare, child, depth_of, head_of, nodes, sort_of};
 
 use crate::pointer::Shared;
+use crate::pos::Pos;
 use crate::sorts::{Head, Sort, SymId, Var};
 use crate::symbols::Symbols;
 use sqlite_items::{Items, at};
@@ -53,8 +56,28 @@ impl Shared<Node> {
         }
     }
 
+    /// The subterm at the position; None exactly where nothing stands there.
+    pub fn at(&self, p: &Pos) -> Option<&Term>
+        ensures { option_copied result ≡ subterm_at p.now self.now }
+    {
+        self.at_path(p.as_slice())
+    }
+
+    /// The subterm at the end of the way.
+    fn at_path(&self, path: &[u32]) -> Option<&Term>
+        ensures { option_copied result ≡ subterm_at path.now self.now }
+    {
+        match path {
+            [] => Some(self),
+            [k, rest @ ..] => match self.arg(*k) {
+                None => None,
+                Some(child) => child.at_path(rest),
+            },
+        }
+    }
+
     /// The sort of the term, None where its symbol isn't in the table or has no result.
-    pub(crate) fn sort_in(&self, syms: &Symbols) -> Option<Sort>
+    pub fn sort_in(&self, syms: &Symbols) -> Option<Sort>
         ensures { result ≡ sort_of syms.now self.now }
     {
         match self.get() {
@@ -124,7 +147,7 @@ impl Shared<Node> {
                 }
                 let mut deepest = 0;
                 for child in args.as_slice() {
-                    deepest = greater(deepest, child.height(most - 1));
+                    deepest = deepest.max(child.height(most - 1));
                 }
                 deepest + 1
             }
@@ -134,7 +157,8 @@ impl Shared<Node> {
     /// Whether the two are one tree. It asks that they agree, as two terms of one bank do.
     pub fn same(&self, other: &Term) -> bool
         requires { Agree self.now other.now }
-        ensures { IsTrue result ↔ (bare self.now ≡ bare other.now) }
+        ensures tree { IsTrue result ↔ (bare self.now ≡ bare other.now) }
+        ensures law { TellsTerms }
     {
         self.equals(other)
     }
@@ -166,9 +190,25 @@ impl Shared<Node> {
     }
 }
 
-/// The greater of two numbers.
-fn greater(a: u64, b: u64) -> u64
-    ensures { result ≡ max a b }
+/// Whether the terms have these sorts, one for one.
+pub fn have_sorts(syms: &Symbols, terms: &[Term], sorts: &[Sort]) -> bool
+    ensures { IsTrue result ↔ (map (sort_of syms.now) terms.now ≡ map Some sorts.now) }
 {
-    if a < b { b } else { a }
+    if terms.len() != sorts.len() {
+        return false;
+    }
+    for i in 0..terms.len() {
+        let sort = sorts[i];
+        if !has_sort(syms, &terms[i], sort) {
+            return false;
+        }
+    }
+    true
+}
+
+/// Whether the term has this sort.
+fn has_sort(syms: &Symbols, term: &Term, sort: Sort) -> bool
+    ensures { IsTrue result ↔ (sort_of syms.now term.now ≡ Some sort) }
+{
+    term.sort_in(syms) == Some(sort)
 }

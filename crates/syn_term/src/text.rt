@@ -28,6 +28,15 @@ impl Text {
         })
     }
 
+    /// The same text once more, in memory of its own.
+    pub fn again(&self) -> Result<Text, AllocError>
+        ensures { IfOk result (λ t. t ≡ self.now) }
+    {
+        Ok(Text {
+            inner: self.inner.clone()?,
+        })
+    }
+
     /// The text itself.
     pub fn as_str(&self) -> &str
         ensures { result.now ≡ self.now }

@@ -25,12 +25,18 @@ pub struct Texts<'a> {
     pub deriv: &'a [u8],
 }
 
+const THEORY: &str = "theory empty\n";
+
+const SPEC: &str = "spec same\nprogram same(a: nat): z: nat\nensures z = a\n";
+
+const DERIV: &str = "derivation 1\n1 goal: goal ?1 = a | ?1\n2 reflex 1 -: goal true | a\n";
+
 /// The files of the identity.
 pub fn identity() -> Texts<'static> {
     Texts {
-        theory: b"theory empty\n",
-        spec: b"spec same\nprogram same(a: nat): z: nat\nensures z = a\n",
-        deriv: b"derivation 1\n1 goal: goal ?1 = a | ?1\n2 reflex 1 -: goal true | a\n",
+        theory: THEORY.as_bytes(),
+        spec: SPEC.as_bytes(),
+        deriv: DERIV.as_bytes(),
     }
 }
 
@@ -89,11 +95,7 @@ fn files(alloc: Global, texts: Texts<'_>) -> Result<Vec<(String, Vec<u8>)>, Allo
 /// A cabinet of the files `empty`, `same` and `d1`.
 fn cabinet(alloc: Global, texts: Texts<'_>, outside: Outside) -> Result<MemCabinet, AllocError> {
     let fail = Vec::from_slice(alloc, &[outside.read])?;
-    Ok(MemCabinet::new(
-        files(alloc, texts)?,
-        outside.step.max(1),
-        fail,
-    ))
+    Ok(MemCabinet::new(files(alloc, texts)?, outside.step.max(1), fail))
 }
 
 fn sink(alloc: Global, outside: Outside) -> Result<MemSink, AllocError> {
@@ -136,9 +138,9 @@ fn told(alloc: Global, status: Status, put: &[u8], is_kept: bool) -> Result<Stri
     if !is_kept {
         line.push_str(" and other files")?;
     }
-    if let Ok(text) = str::from_utf8(put) && !text.is_empty() {
+    if !put.is_empty() {
         line.push(' ')?;
-        put_marked(&mut line, text)?;
+        put_marked(&mut line, str::from_utf8(put).unwrap_or("no text"))?;
     }
     Ok(line)
 }
@@ -220,18 +222,34 @@ fn unmarked(alloc: Global, text: &str) -> Result<Vec<u8>, AllocError> {
 }
 
 /// The part, unless it stands for the usual one.
-fn part<'a>(part: &'a [u8], usual: &'a [u8]) -> &'a [u8] {
-    if part == b"=" { usual } else { part }
+fn part<'a>(part: &'a [u8], usual: &'static str) -> &'a [u8] {
+    match part {
+        [b'='] => usual.as_bytes(),
+        _ => part,
+    }
+}
+
+/// The bytes before the first `;`, and those after it.
+fn halves(bytes: &[u8]) -> (&[u8], &[u8]) {
+    for (i, byte) in bytes.iter().enumerate() {
+        if *byte == b';' {
+            return (&bytes[..i], &bytes[i + 1..]);
+        }
+    }
+    (bytes, &[])
 }
 
 /// The three files that the bytes say.
 fn texts_in(bytes: &[u8]) -> Texts<'_> {
-    let usual = identity();
-    let mut parts = bytes.split(|byte| *byte == b';');
+    let (theory, others) = halves(bytes);
+    let (spec, deriv) = halves(others);
+    let theory = part(theory, THEORY);
+    let spec = part(spec, SPEC);
+    let deriv = part(deriv, DERIV);
     Texts {
-        theory: part(parts.next().unwrap_or(b""), usual.theory),
-        spec: part(parts.next().unwrap_or(b""), usual.spec),
-        deriv: part(parts.next().unwrap_or(b""), usual.deriv),
+        theory,
+        spec,
+        deriv,
     }
 }
 

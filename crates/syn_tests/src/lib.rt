@@ -14,6 +14,4 @@ mod specifications;
 #[cfg(test)]
 mod statuses;
 #[cfg(test)]
-mod terms;
-#[cfg(test)]
 mod theories;

@@ -9,7 +9,7 @@ const MOST: usize = 4_194_304;
 
 /// One byte a call, of which one read fails. A file of n bytes takes n + 1 calls, the last of which
 /// finds its end; the files have 13, 53 and 66 bytes.
-const fn reading(read: u64) -> Outside {
+fn reading(read: u64) -> Outside {
     Outside {
         step: 1,
         read,
@@ -18,7 +18,7 @@ const fn reading(read: u64) -> Outside {
 }
 
 /// Eight bytes a call, of which one put fails. The program has 30 bytes.
-const fn putting(put: u64) -> Outside {
+fn putting(put: u64) -> Outside {
     Outside {
         step: 8,
         read: 0,
@@ -97,16 +97,14 @@ fn tells_which_file_is_not_there(rt: HostRuntime) -> Result<(), Fail> {
 #[test]
 fn limits_files(rt: HostRuntime) -> Result<(), Fail> {
     let alloc = rt.alloc();
-    let more = vec![in alloc; b'\n'; MOST + 1]?;
-    assert!(rt; more.len() > MOST);
+    let more = vec![in alloc; b'x'; MOST + 1]?;
     for (which, length, want) in [
-        (Which::Theory, MOST + 1, "too long: theory"),
         (Which::Theory, MOST, "bad theory: line 1"),
+        (Which::Theory, MOST + 1, "too long: theory"),
         (Which::Spec, MOST + 1, "too long: spec"),
-        (Which::Spec, MOST, "bad spec: line 1"),
         (Which::Derivation, MOST + 1, "too long: derivation"),
-        (Which::Derivation, MOST, "bad derivation: line 1"),
     ] {
+        assert!(rt; length <= more.len());
         let texts = with(which, &more[..length]);
         assert_answer(&rt, alloc, WORDS, texts, WELL, want)?;
     }

@@ -1,11 +1,6 @@
--- For private contracts: a file that is read part by part, and how far a reader has come.
+-- For private contracts: a file that is read part by part.
 use Rattle.std.specs.Prelude.{◌≡◌, ℕ, ◌+◌, ◌<◌, ◌≤◌, List, ◌++◌, length, take, drop, Option, Some, None}
 use Rattle.syn_outside.specs.Files.{File, file_of, Told}
-
--- The files are told, and these are the bytes of the name.
-abbrev pub IsFile : Option (List File) → List ℕ → List ℕ → Type 0
-IsFile None name bytes = ⊥
-IsFile (Some fs) name bytes = file_of fs name ≡ Some bytes
 
 -- The next k bytes of a file came to those taken before; none came only at the file's end.
 abbrev pub AddsPart : List ℕ → List ℕ → ℕ → List ℕ → Type 0
@@ -15,8 +10,3 @@ AddsPart old new k bytes = (new ≡ old ++ take k (drop (length old) bytes)) × 
 pub record TakesPart (files : Option (List File)) (name old new : List ℕ) (k : ℕ) : Type 0 where
   pub grown : length new ≡ length old + k
   pub told : Told (AddsPart old new k) files name
-
--- What a reader has taken is the file's beginning, and the file is there if anything was taken.
-pub record HasTaken (files : Option (List File)) (name taken : List ℕ) : Type 0 where
-  pub is : (bytes : List ℕ) → IsFile files name bytes → taken ≡ take (length taken) bytes
-  pub there : 0 < length taken → Told (λ bytes. length taken ≤ length bytes) files name

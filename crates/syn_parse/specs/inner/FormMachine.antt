@@ -20,6 +20,7 @@ use Rattle.syn_parse.specs.declared.form_frames.Prefix.{Prefix}
 use Rattle.syn_parse.specs.declared.form_frames.Frame.{Frame}
 use Rattle.syn_parse.specs.declared.form_reader.FormReader.{FormReader}
 use Rattle.syn_parse.specs.Heights.{max_height}
+use Rattle.syn_parse.specs.inner.Feeding.{feed}
 
 -- a formula whose highest part has the height n; none where it would be too high
 abbrev pub built : FormSyntax → ℕ → Option Tall
@@ -191,8 +192,7 @@ step r i = step_at r.last r i
 
 -- all items in a row
 abbrev pub run : List Item → FormReader → Option FormReader
-run [] r = Some r
-run (i ∷ is) r = option_and_then (run is) (step r i)
+run = feed step
 
 abbrev pub start : FormReader
 start = wants true fresh []

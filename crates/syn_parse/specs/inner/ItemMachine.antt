@@ -148,11 +148,17 @@ abbrev pub run : List Phrase → ItemReader → Option ItemReader
 run [] r = Some r
 run (p ∷ ps) r = option_and_then (run ps) (step r p)
 
-abbrev pub ended_at : List Call → ItemReader → Option (List Item)
-ended_at [] r = option_map (λ s. s.items) (flush r)
-ended_at (c ∷ calls) r = None
+abbrev pub finished_at : List Call → ItemReader → Option ItemReader
+finished_at [] r = flush r
+finished_at (c ∷ calls) r = None
 
 -- the end, where no call is open
+abbrev pub finished : ItemReader → Option ItemReader
+finished r = finished_at r.calls r
+
+abbrev pub ended_at : List Call → ItemReader → Option (List Item)
+ended_at calls r = option_map (λ s. s.items) (finished_at calls r)
+
 abbrev pub ended : ItemReader → Option (List Item)
 ended r = ended_at r.calls r
 

@@ -20,6 +20,7 @@ use Rattle.syn_parse.specs.declared.out_reader.OutStage.TheVariants as stage
 use Rattle.syn_parse.specs.declared.out_reader.OutReader.{OutReader}
 use Rattle.syn_parse.specs.inner.FormMachine as tests
 use Rattle.syn_parse.specs.Heights.{max_height}
+use Rattle.syn_parse.specs.inner.Feeding.{feed}
 
 -- an output whose highest part has the height n; none where it would be too high
 abbrev pub built : OutSyntax → ℕ → Option TallOut
@@ -110,8 +111,7 @@ step r i = step_at r.stage r.arms i
 
 -- all items in a row
 abbrev pub run : List Item → OutReader → Option OutReader
-run [] r = Some r
-run (i ∷ is) r = option_and_then (run is) (step r i)
+run = feed step
 
 abbrev pub start : OutReader
 start = wanted []

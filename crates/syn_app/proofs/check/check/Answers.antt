@@ -1,5 +1,5 @@
 use Rattle.std.proofs.Common.{subst, sym}
-use Rattle.syn_app.specs.Shapes.{HasTexts}
+use Rattle.syn_app.specs.inner.Shapes.{HasTexts}
 use Rattle.syn_app.proofs.Tables.{has_texts}
 use Rattle.syn_app.proofs.Accepted.{first_fails, is_target, proven, unfinished}
 use Rattle.syn_app.proofs.check.check.Goals as goal

@@ -1,6 +1,6 @@
 use Rattle.std.proofs.Common.{◌≡◌, ◌++◌, codes, map, take, string_bytes}
 use Rattle.syn_app.specs.ProgramText.{joined, texts_of}
-use Rattle.syn_app.specs.Printing.{printing_of}
+use Rattle.syn_app.specs.inner.Printing.{printing_of}
 use Rattle.syn_app.proofs.printing.+print_term.Given as goal
 
 -- the arguments so far stand there, with a comma and a space between

@@ -11,8 +11,8 @@ follows-requires-clause-agrees c =
 
 pub returns-then-follows-clause-row : goal.returns-then-follows-clause-row
 returns-then-follows-clause-row c =
-    next_given _ _ c.in_ok-row.row c.simplified-row.result c.args.reading.now c.in_ok-row.ensures.tree c.simplified-row.ensures (c.follows.ensures.0 c.if-follows.true)
+    next_given _ _ c.in_ok-row.row c.simplified-row.result c.args.flat.now c.in_ok-row.ensures.tree c.simplified-row.ensures (c.follows.ensures.0 c.if-follows.true)
 
 pub returns-else-follows-clause-row : goal.returns-else-follows-clause-row
 returns-else-follows-clause-row c =
-    next_refused _ _ c.in_ok-row.row c.simplified-row.result c.args.reading.now c.in_ok-row.ensures.tree c.simplified-row.ensures (λ g. let h = c.follows.ensures.1 g in cc)
+    next_refused _ _ c.in_ok-row.row c.simplified-row.result c.args.flat.now c.in_ok-row.ensures.tree c.simplified-row.ensures (λ g. let h = c.follows.ensures.1 g in cc)

@@ -1,7 +1,7 @@
 use Rattle.std.proofs.Common.{map, refl, sym, ◌∙◌, ap, subst, arith}
 use Rattle.syn_term.specs.Bank.{Belongs-extends, Extends-trans}
 use Rattle.syn_app.specs.Rows.{bare_row}
-use Rattle.syn_app.specs.Shapes.{HaveShape}
+use Rattle.syn_app.specs.inner.Shapes.{HaveShape}
 use Rattle.syn_app.proofs.Numbered.{shapes_before}
 use Rattle.syn_app.proofs.Replays.{first_unshaped, kept_more, shaped_more, kept_all, next_none, next_some}
 use Rattle.syn_app.proofs.replay.replay.Goals as goal

@@ -4,7 +4,7 @@ use Rattle.syn_term.specs.Terms.{bare}
 use Rattle.syn_app.specs.DerivationText.{entry_of}
 use Rattle.syn_app.specs.Replay.{simplified_rows}
 use Rattle.syn_app.specs.Rows.{bare_row}
-use Rattle.syn_app.specs.Shapes.{AreShaped}
+use Rattle.syn_app.specs.inner.Shapes.{AreShaped}
 use Rattle.syn_app.proofs.replay.replay.Given as goal
 
 abbrev pub invariant-loop-i : goal.invariant-loop-i

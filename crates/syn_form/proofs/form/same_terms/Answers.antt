@@ -10,5 +10,5 @@ same-requires c = agree_at _ _ _ _ _ _ _ _ c.requires c.loop-i-test.true (omega 
 pub returns-then-not-same : goal.returns-then-not-same
 returns-then-not-same c = (
   (λ e. absurd (cc)),
-  (λ e. absurd (items_differ bare bare _ _ _ _ _ c.index-xs-i.is c.index-ys-i.is c.loop-i-test.true (omega arith) (λ k. let h = c.same.ensures.1 k in cc) e)),
+  (λ e. absurd (items_differ bare bare _ _ _ _ _ c.index-xs-i.is c.index-ys-i.is c.loop-i-test.true (omega arith) (λ k. let h = c.same.ensures.tree.1 k in cc) e)),
 )

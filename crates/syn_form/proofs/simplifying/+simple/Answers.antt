@@ -37,8 +37,8 @@ simple_implication-simple-requires t c = (omega arith, first_of _ _ c.requires)
 pub simple_implication-simple-requires-2 : goal.simple_implication-simple-requires-2
 simple_implication-simple-requires-2 t c = (omega arith, second_of _ _ c.requires)
 
-pub simple_implication-implied-requires : goal.simple_implication-implied-requires
-simple_implication-implied-requires t c = implied_bank _ _ _ _ c.in_ok-a.ensures c.in-Ok.ensures c.requires
+pub simple_implication-implied-result-requires : goal.simple_implication-implied-result-requires
+simple_implication-implied-result-requires t c = implied_bank _ _ _ _ c.in_ok-a.ensures c.in-Ok.ensures c.requires
 
 pub simple_chain-simple-requires : goal.simple_chain-simple-requires
 simple_chain-simple-requires t c =

@@ -6,4 +6,4 @@ pub same-requires : goal.same-requires
 same-requires c = agree_of _ _ c.requires
 
 pub returns : goal.returns
-returns c = tested_tree _ _ _ c.same.ensures
+returns c = tested_tree _ _ _ c.same.ensures.tree

@@ -2,11 +2,14 @@ use Rattle.syn_term.proofs.OneSpelling.{one_spelling}
 use Rattle.syn_term.proofs.Spaced.{spaced_words}
 use Rattle.syn_lex.proofs.OneAnswer.{one_answer}
 use Rattle.syn_lex.proofs.Spelling.{lexed_spelled, where_ok}
-use Rattle.syn_lex.proofs.ByGrammar.{by_grammar, lexed_longest}
+use Rattle.syn_lex.proofs.ByGrammar.{by_grammar, lexed_longest, account}
 use Rattle.syn_lex.proofs.lexer.tokens.Goals as goal
 
 pub returns-clause-grammar : goal.returns-clause-grammar
 returns-clause-grammar c = by_grammar c.args.line.now (λ found. found.items) c.scan.result c.scan.ensures
+
+pub returns-clause-account : goal.returns-clause-account
+returns-clause-account c = account
 
 pub returns-clause-one : goal.returns-clause-one
 returns-clause-one c = one_answer c.args.line.now

@@ -1,5 +1,5 @@
 use Rattle.std.proofs.Common.{◌≡◌, ◌+◌, ◌-◌, ◌≤◌, length}
-use Rattle.syn_outside.specs.inner.Whole.{HasTaken}
+use Rattle.syn_outside.proofs.Turns.{HasTaken}
 use Rattle.syn_outside.proofs.whole.take_all.Given as goal
 
 -- Each turn so far took a byte at least, and what was taken is the file's beginning.

@@ -18,6 +18,6 @@ returns-in-None c =
 pub loop-token-preserved : goal.loop-token-preserved
 loop-token-preserved c =
     let i = c.loop-token.token-index in
-    subst (Spell (words_of c.args.line.now (take (i + 1) c.args.found.now))) (sym c.in_ok-push-in-Some.ensures.ok)
+    subst (Spell (words_of c.args.line.now (take (i + 1) c.args.found.now))) (sym c.in_ok-push-in-Some.ensures)
     (spell_more c.args.line.now c.args.found.now i any c.loop-token.lexemes c.in-Some.lexeme (omega arith) c.loop-token.invariant
     (answer_some (word_of c.args.line.now (get_or c.args.found.now i any)) c.in_ok-token_lexeme.field-0 c.in-Some.lexeme c.in-Some.is c.in_ok-token_lexeme.ensures))

@@ -1,11 +1,11 @@
 use Rattle.std.proofs.Common.{sym, ◌∙◌, ap}
 use Rattle.std.specs.Option.{option_and_then}
 use Rattle.std.proofs.lemmas.Result.{IfOk-weaker}
-use Rattle.syn_parse.specs.inner.Passes.{items_from}
-use Rattle.syn_parse.specs.inner.Passes.{one_term}
+use Rattle.syn_parse.specs.inner.Passes.{term_of}
+use Rattle.syn_parse.specs.inner.PhraseMachine as machine
 use Rattle.syn_parse.proofs.Gives.{gives_then}
 use Rattle.syn_parse.proofs.syntaxes.term_syntax.Goals as goal
 
 pub returns-in-Some : goal.returns-in-Some
 returns-in-Some c =
-    IfOk-weaker c.answer.result _ _ (λ o e. gives_then items_from one_term c.args.text.now _ o c.in_ok-items_in.ensures (e ∙ sym (ap (option_and_then one_term) c.in-Some.is))) (c.answer.ensures _ c.term_of_items.ensures)
+    IfOk-weaker c.answer.result _ _ (λ o e. gives_then machine.phrases_of term_of c.args.text.now _ o c.in_ok-phrases_in.ensures (e ∙ sym (ap (option_and_then term_of) c.in-Some.is))) (c.answer.ensures _ c.term_of_phrases.ensures)

@@ -1,5 +1,5 @@
--- `Shared` as a type that may hold the type that holds it: its value is the value behind the pointer, so what it
--- holds is that one value, and the rest of it is the pointer's address.
+-- For the checker alone: `Shared` as a type that may hold the type that holds it. Its value is the value behind the
+-- pointer, so what it holds is that one value, and the rest of it is the pointer's address.
 use mathlib.Core.Path.{refl}
 use mathlib.Core.Former.{Former, this, const, pair, via}
 use base.Stored.{gnil}

@@ -32,4 +32,4 @@ is_one-requires-in-If-If t c =
 pub returns-else-not-is_one : goal.returns-else-not-is_one
 returns-else-not-is_one t c =
     choices_same _ _ _ _ _ _ _ _ _ _ _ _ _ c.in-If-If.is-0 c.in-If-If.is-1 c.get.ensures c.get-in-If-If.ensures c.get-in-If-If-2.ensures c.get-in-If-If-3.ensures
-    _ _ c.get-in-If-If-4.ensures c.get-in-If-If-5.ensures (c.same-in-If-If.ensures.tree.0 c.if-not-same.false) (c.is_one.ensures.0 c.if-not-is_one.false) c.is_one-in-If-If.ensures
+    _ _ c.get-in-If-If-4.ensures c.get-in-If-If-5.ensures (c.same-in-If-If.ensures.same.0 c.if-not-same.false) (c.is_one.ensures.0 c.if-not-is_one.false) c.is_one-in-If-If.ensures

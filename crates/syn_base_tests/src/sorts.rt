@@ -1,0 +1,81 @@
+// Declared sorts: lists and tuples that a table takes, and what it shows of them.
+use crate::words::{cut, sort_of, sorts_of};
+use std::alloc::Global;
+use std::test::Fail;
+use syn_term::{Shape, Sort, Symbols, decimal_number};
+
+/// One walk over one table: a name and two makers, the sort of the items, and the sort that is
+/// declared.
+const LISTS: &str = "\
+nat nil cons : nat => no
+l l cons : nat => no
+l nil nil : nat => no
+l nil cons : 0 => no
+nats nil cons : nat => 0
+nats none more : nat => no
+rows nil more : 0 => no
+rows none more : 0 => 1";
+
+/// The same for tuples. The default terms of quad, big and full have 5, 21 and 64 nodes.
+const TUPLES: &str = "\
+quad q : nat => no
+quad q : nat nat nat nat nat => no
+quad quad : nat nat nat nat => no
+quad q : nat nat nat 0 => no
+quad q : nat nat nat nat => 0
+big b : 0 0 0 0 => 1
+full f : 1 1 1 nat => no
+full f : 1 1 1 => 2
+other q : nat nat => no";
+
+fn list(table: &mut Symbols, line: &str) -> Result<Option<Sort>, Fail> {
+    let (names, item) = cut(line, " : ");
+    let (name, makers) = cut(names, " ");
+    let (nil, cons) = cut(makers, " ");
+    Ok(table.add_list(name, nil, cons, sort_of(item))?)
+}
+
+fn tuple(alloc: Global, table: &mut Symbols, line: &str) -> Result<Option<Sort>, Fail> {
+    let (names, parts) = cut(line, " : ");
+    let (name, make) = cut(names, " ");
+    Ok(table.add_tuple(name, make, sorts_of(alloc, parts)?.as_slice())?)
+}
+
+#[test]
+fn declares_lists(rt: HostRuntime) -> Result<(), Fail> {
+    let mut table = Symbols::new(rt.alloc())?;
+    for row in LISTS.lines() {
+        let (line, number) = cut(row, " => ");
+        assert_eq!(rt;
+            list(&mut table, line)?,
+            decimal_number(number).map(Sort::Named)
+        );
+    }
+    assert_eq!(rt; table.find_sort("rows"), Some(Sort::Named(1)));
+    Ok(())
+}
+
+#[test]
+fn declares_tuples(rt: HostRuntime) -> Result<(), Fail> {
+    let alloc = rt.alloc();
+    let mut table = Symbols::new(alloc)?;
+    for row in TUPLES.lines() {
+        let (line, number) = cut(row, " => ");
+        assert_eq!(rt;
+            tuple(alloc, &mut table, line)?,
+            decimal_number(number).map(Sort::Named)
+        );
+    }
+    Ok(())
+}
+
+#[test]
+fn shows_sorts(rt: HostRuntime) -> Result<(), Fail> {
+    let table = Symbols::new(rt.alloc())?;
+    assert_eq!(rt; table.find_sort("nat"), Some(Sort::Nat));
+    assert_eq!(rt; table.find_sort("nats"), None);
+    assert_eq!(rt; table.sort_name(Sort::Nat), Some("nat"));
+    assert!(rt; matches!(table.shape(Sort::Nat), Some(Shape::Nat)));
+    assert!(rt; table.shape(Sort::Named(0)).is_none());
+    Ok(())
+}

@@ -1,0 +1,190 @@
+// Formulas with terms in place of input symbols. All nodes are made anew by the bank, so no term of the
+// formula has to be its own.
+ghost use Rattle.std.specs.Prelude.{◌≡◌, ◌≤◌, ◌+◌, map, sum, All, IfOk};
+ghost use Rattle.std.specs.Option.{option_copied};
+ghost use Rattle.syn_term.specs.Bank.{Belongs, Extends};
+ghost use Rattle.syn_term.specs.Terms.{bare, nodes};
+ghost use Rattle.syn_form.specs.Inputs.{AreInputs, InputsBelong, form_with_inputs, listed_term, terms_size, with_inputs};
+ghost use Rattle.syn_form.specs.InputLaws.{PutsInputs};
+ghost use Rattle.syn_form.specs.inner.Joining.{terms_of};
+ghost use Rattle.syn_form.specs.Plain.{IsFormed, IsSorted};
+ghost use Rattle.syn_form.specs.Trees.{bare_form, form_terms};
+
+use crate::trees::Form;
+use sqlite_items::Items;
+use std::alloc::Global;
+use syn_term::{Bank, NoMemory, Node, Shared, SymId, Symbols, Term};
+
+/// The term that is listed for the symbol, the first if there are several.
+fn listed(inputs: &[(SymId, Term)], f: SymId) -> Option<&Term>
+    ensures { option_copied result ≡ listed_term inputs.now f }
+{
+    match inputs {
+        [] => None,
+        [first, rest @ ..] => {
+            if first.0 == f {
+                Some(&first.1)
+            } else {
+                listed(rest, f)
+            }
+        }
+    }
+}
+
+/// The term with each listed symbol replaced.
+#[cycle(terms)]
+#[tactic(auto, using(crate::proofs::InputTerms::growth))]
+fn put_in_term(
+    bank: &mut Bank,
+    alloc: Global,
+    syms: &Symbols,
+    t: &Term,
+    inputs: &[(SymId, Term)],
+) -> Result<Term, NoMemory>
+    requires inputs { AreInputs syms.now inputs.now }
+    requires sorted { IsSorted syms.now t.now }
+    requires own { InputsBelong bank.old inputs.now }
+    ensures tree { IfOk result (λ r. bare r ≡ bare (with_inputs inputs.now t.now)) }
+    ensures made { bank.new.made ≤ bank.old.made + nodes t.now }
+    ensures extends { Extends bank.old bank.new }
+    ensures belongs { IfOk result (Belongs bank.new) }
+{
+    match t.get() {
+        Node::Var(_, v) => bank.var(alloc, *v),
+        Node::App(_, f, args) => match listed(inputs, *f) {
+            Some(term) => Ok(term.again()?),
+            None => {
+                let parts = put_in_terms(bank, alloc, syms, args.as_slice(), inputs)?;
+                match bank.app(alloc, syms, *f, parts.as_slice())? {
+                    Some(made) => Ok(made),
+                    None => unreachable!(),
+                }
+            }
+        },
+    }
+}
+
+/// The same for each of the terms.
+#[cycle(terms)]
+#[tactic(auto, using(crate::proofs::InputTerms::growth))]
+fn put_in_terms(
+    bank: &mut Bank,
+    alloc: Global,
+    syms: &Symbols,
+    ts: &[Term],
+    inputs: &[(SymId, Term)],
+) -> Result<Items<Term>, NoMemory>
+    requires inputs { AreInputs syms.now inputs.now }
+    requires sorted { All (IsSorted syms.now) ts.now }
+    requires own { InputsBelong bank.old inputs.now }
+    ensures tree { IfOk result (λ rs. map bare rs ≡ map bare (map (with_inputs inputs.now) ts.now)) }
+    ensures made { bank.new.made ≤ bank.old.made + sum (map nodes ts.now) }
+    ensures extends { Extends bank.old bank.new }
+    ensures belongs { IfOk result (All (Belongs bank.new)) }
+{
+    let mut done = Items::new(alloc);
+    for t in ts {
+        done.push(put_in_term(bank, alloc, syms, t, inputs)?)?;
+    }
+    Ok(done)
+}
+
+/// The formula with each listed symbol replaced.
+#[cycle(forms)]
+#[tactic(auto, using(crate::proofs::InputTerms::growth))]
+fn put_in_form(
+    bank: &mut Bank,
+    alloc: Global,
+    syms: &Symbols,
+    f: &Form,
+    inputs: &[(SymId, Term)],
+) -> Result<Form, NoMemory>
+    requires inputs { AreInputs syms.now inputs.now }
+    requires formed { IsFormed syms.now f.now }
+    requires own { InputsBelong bank.old inputs.now }
+    ensures tree { IfOk result (λ g. bare_form g ≡ bare_form (form_with_inputs inputs.now f.now)) }
+    ensures made { bank.new.made ≤ bank.old.made + terms_size f.now }
+    ensures extends { Extends bank.old bank.new }
+    ensures belongs { IfOk result (λ g. All (Belongs bank.new) (form_terms g)) }
+{
+    match f {
+        Form::True => Ok(Form::True),
+        Form::False => Ok(Form::False),
+        Form::Atom(r, args) => {
+            let args = put_in_terms(bank, alloc, syms, args.get().as_slice(), inputs)?;
+            Ok(Form::Atom(*r, Shared::new(alloc, args)?))
+        }
+        Form::Equal(s, t) => {
+            let s = put_in_term(bank, alloc, syms, s, inputs)?;
+            let t = put_in_term(bank, alloc, syms, t, inputs)?;
+            Ok(Form::Equal(s, t))
+        }
+        Form::Not(a) => {
+            let a = put_in_form(bank, alloc, syms, a.get(), inputs)?;
+            Ok(Form::Not(Shared::new(alloc, a)?))
+        }
+        Form::And(all) => {
+            let all = put_in_forms(bank, alloc, syms, all.get().as_slice(), inputs)?;
+            Ok(Form::And(Shared::new(alloc, all)?))
+        }
+        Form::Or(all) => {
+            let all = put_in_forms(bank, alloc, syms, all.get().as_slice(), inputs)?;
+            Ok(Form::Or(Shared::new(alloc, all)?))
+        }
+        Form::Implies(a, b) => {
+            let a = Shared::new(alloc, put_in_form(bank, alloc, syms, a.get(), inputs)?)?;
+            let b = Shared::new(alloc, put_in_form(bank, alloc, syms, b.get(), inputs)?)?;
+            Ok(Form::Implies(a, b))
+        }
+    }
+}
+
+/// The same for each of the formulas.
+#[cycle(forms)]
+#[tactic(auto, using(crate::proofs::InputTerms::growth))]
+fn put_in_forms(
+    bank: &mut Bank,
+    alloc: Global,
+    syms: &Symbols,
+    fs: &[Form],
+    inputs: &[(SymId, Term)],
+) -> Result<Items<Form>, NoMemory>
+    requires inputs { AreInputs syms.now inputs.now }
+    requires formed { All (IsFormed syms.now) fs.now }
+    requires own { InputsBelong bank.old inputs.now }
+    ensures tree { IfOk result (λ gs. map bare_form gs ≡ map bare_form (map (form_with_inputs inputs.now) fs.now)) }
+    ensures made { bank.new.made ≤ bank.old.made + sum (map terms_size fs.now) }
+    ensures extends { Extends bank.old bank.new }
+    ensures belongs { IfOk result (λ gs. All (Belongs bank.new) (terms_of gs)) }
+{
+    let mut done = Items::new(alloc);
+    for f in fs {
+        done.push(put_in_form(bank, alloc, syms, f, inputs)?)?;
+    }
+    Ok(done)
+}
+
+/// The formula with each listed input symbol replaced by its term, everywhere at once: what stands in
+/// a term that was put in is not looked at again. Of two terms for one symbol the first counts.
+///
+/// The bank makes no more nodes than the formula's terms have; these needn't be its own. What comes of
+/// a formed formula, and which variables it has, is the record `PutsInputs`. The one error is
+/// `NoMemory`.
+pub fn put_inputs(
+    bank: &mut Bank,
+    alloc: Global,
+    syms: &Symbols,
+    f: &Form,
+    inputs: &[(SymId, Term)],
+) -> Result<Form, NoMemory>
+    requires inputs { AreInputs syms.now inputs.now }
+    requires formed { IsFormed syms.now f.now }
+    requires own { InputsBelong bank.old inputs.now }
+    ensures tree { IfOk result (λ g. bare_form g ≡ bare_form (form_with_inputs inputs.now f.now)) }
+    ensures made { bank.new.made ≤ bank.old.made + terms_size f.now }
+    ensures extends { Extends bank.old bank.new }
+    ensures belongs { IfOk result (λ g. All (Belongs bank.new) (form_terms g)) }
+    ensures laws { PutsInputs inputs.now f.now }
+{
+    put_in_form(bank, alloc, syms, f, inputs)
+}

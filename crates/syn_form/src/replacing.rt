@@ -1,0 +1,82 @@
+// Formulas with some of their subformulas replaced by a truth value.
+ghost use Rattle.std.specs.Prelude.{◌≡◌, ◌++◌, map, IfOk};
+ghost use Rattle.syn_form.specs.inner.Joining.{terms_of};
+ghost use Rattle.syn_form.specs.Replacing.{replaced_all, truth_form};
+ghost use Rattle.syn_form.specs.ReplacingLaws.{ReplacesAll};
+ghost use Rattle.syn_form.specs.Same.{OfOneBank};
+ghost use Rattle.syn_form.specs.Trees.{form_terms};
+
+use crate::joins::is_same;
+use crate::trees::Form;
+use sqlite_items::Items;
+use std::alloc::Global;
+use syn_term::{NoMemory, Shared};
+
+/// `true` or `false`.
+fn constant(by: bool) -> Form
+    ensures { result ≡ truth_form by }
+{
+    if by { Form::True } else { Form::False }
+}
+
+/// The formula with each subformula that is the same as `part` replaced.
+#[cycle(forms)]
+fn replaced(alloc: Global, f: &Form, part: &Form, by: bool) -> Result<Form, NoMemory>
+    requires { OfOneBank (form_terms f.now ++ form_terms part.now) }
+    ensures { IfOk result (λ g. g ≡ replaced_all part.now by f.now) }
+{
+    if is_same(f, part) {
+        return Ok(constant(by));
+    }
+    match f {
+        Form::True => Ok(Form::True),
+        Form::False => Ok(Form::False),
+        Form::Atom(_, _) => f.again(),
+        Form::Equal(_, _) => f.again(),
+        Form::Not(a) => {
+            let a = replaced(alloc, a.get(), part, by)?;
+            Ok(Form::Not(Shared::new(alloc, a)?))
+        }
+        Form::And(all) => Ok(Form::And(replaced_members(alloc, all.get().as_slice(), part, by)?)),
+        Form::Or(all) => Ok(Form::Or(replaced_members(alloc, all.get().as_slice(), part, by)?)),
+        Form::Implies(a, b) => {
+            let a = Shared::new(alloc, replaced(alloc, a.get(), part, by)?)?;
+            let b = Shared::new(alloc, replaced(alloc, b.get(), part, by)?)?;
+            Ok(Form::Implies(a, b))
+        }
+    }
+}
+
+/// The same for each of the formulas.
+#[cycle(forms)]
+fn replaced_members(
+    alloc: Global,
+    fs: &[Form],
+    part: &Form,
+    by: bool,
+) -> Result<Shared<Items<Form>>, NoMemory>
+    requires { OfOneBank (terms_of fs.now ++ form_terms part.now) }
+    ensures { IfOk result (λ gs. gs ≡ map (replaced_all part.now by) fs.now) }
+{
+    let mut done = Items::new(alloc);
+    for f in fs {
+        done.push(replaced(alloc, f, part, by)?)?;
+    }
+    Ok(Shared::new(alloc, done)?)
+}
+
+/// The formula with each subformula that is the same as `part` replaced by `true` or `false`, from
+/// the outside in: what stands inside a replaced part is not looked at.
+///
+/// Two formulas are the same where they are one tree, so the terms have to be of one bank. What is
+/// replaced, and what the replacing keeps, is the record `ReplacesAll`: where `part` has the truth
+/// value that takes its place, the whole keeps its own. The recursion goes as deep as the tree, and
+/// the one error is `NoMemory`.
+#[tactic(auto, using(crate::proofs::ReplacingAll::replaces_all_ok))]
+pub fn replace_all(alloc: Global, f: &Form, part: &Form, by: bool) -> Result<Form, NoMemory>
+    requires { OfOneBank (form_terms f.now ++ form_terms part.now) }
+    ensures value { IfOk result (λ g. g ≡ replaced_all part.now by f.now) }
+    ensures laws { IfOk result (ReplacesAll part.now by f.now) }
+{
+    replaced(alloc, f, part, by)
+}

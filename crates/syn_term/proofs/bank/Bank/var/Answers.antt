@@ -1,0 +1,5 @@
+use Rattle.syn_term.proofs.Banks.{variable_belongs}
+use Rattle.syn_term.proofs.bank.Bank.var.Goals as goal
+
+pub returns-clause-belongs : goal.returns-clause-belongs
+returns-clause-belongs c = variable_belongs _ _ _ _ _ c.place-place.ensures.number c.place-place.ensures.made c.in_ok-new.ensures
