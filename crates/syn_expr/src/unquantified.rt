@@ -1,5 +1,7 @@
 // Formulas with quantifiers that have none, as formulas without them. Terms are shared.
 ghost use Rattle.std.specs.Prelude.{◌≡◌, map, IfOk};
+ghost use Rattle.std.specs.Option.{option_map};
+ghost use Rattle.syn_form.specs.declared.trees.Form.TheViews as view;
 ghost use Rattle.syn_form.specs.Lists.{all_there};
 ghost use Rattle.syn_form.specs.Quantified.{unquantified};
 
@@ -7,6 +9,36 @@ use sqlite_items::Items;
 use std::alloc::Global;
 use syn_form::{Form, QForm};
 use syn_term::{NoMemory, Shared};
+
+/// The negation of the formula, where there is one.
+fn negation(alloc: Global, a: Option<Form>) -> Result<Option<Form>, NoMemory>
+    ensures { IfOk result (λ o. o ≡ option_map view.Not a) }
+{
+    match a {
+        None => Ok(None),
+        Some(a) => Ok(Some(Form::Not(Shared::new(alloc, a)?))),
+    }
+}
+
+/// The `and` of the formulas, where they are there.
+fn conjunction(alloc: Global, all: Option<Items<Form>>) -> Result<Option<Form>, NoMemory>
+    ensures { IfOk result (λ o. o ≡ option_map view.And all) }
+{
+    match all {
+        None => Ok(None),
+        Some(all) => Ok(Some(Form::And(Shared::new(alloc, all)?))),
+    }
+}
+
+/// The `or` of the formulas, where they are there.
+fn disjunction(alloc: Global, all: Option<Items<Form>>) -> Result<Option<Form>, NoMemory>
+    ensures { IfOk result (λ o. o ≡ option_map view.Or all) }
+{
+    match all {
+        None => Ok(None),
+        Some(all) => Ok(Some(Form::Or(Shared::new(alloc, all)?))),
+    }
+}
 
 /// The same formula as one without quantifiers; None where it has one.
 #[cycle(unquantified)]
@@ -18,26 +50,19 @@ pub(crate) fn without_quantifiers(alloc: Global, f: &QForm) -> Result<Option<For
         QForm::False => Ok(Some(Form::False)),
         QForm::Atom(r, args) => Ok(Some(Form::Atom(*r, args.again()?))),
         QForm::Equal(s, t) => Ok(Some(Form::Equal(s.again()?, t.again()?))),
-        QForm::Not(a) => match without_quantifiers(alloc, a.get())? {
-            None => Ok(None),
-            Some(a) => Ok(Some(Form::Not(Shared::new(alloc, a)?))),
-        },
-        QForm::And(all) => match all_without(alloc, all.get().as_slice())? {
-            None => Ok(None),
-            Some(all) => Ok(Some(Form::And(Shared::new(alloc, all)?))),
-        },
-        QForm::Or(all) => match all_without(alloc, all.get().as_slice())? {
-            None => Ok(None),
-            Some(all) => Ok(Some(Form::Or(Shared::new(alloc, all)?))),
-        },
+        QForm::Not(a) => negation(alloc, without_quantifiers(alloc, a.get())?),
+        QForm::And(all) => conjunction(alloc, all_without(alloc, all.get().as_slice())?),
+        QForm::Or(all) => disjunction(alloc, all_without(alloc, all.get().as_slice())?),
         QForm::Implies(a, b) => {
             let Some(a) = without_quantifiers(alloc, a.get())? else {
                 return Ok(None);
             };
+            let a = Shared::new(alloc, a)?;
             let Some(b) = without_quantifiers(alloc, b.get())? else {
                 return Ok(None);
             };
-            Ok(Some(Form::Implies(Shared::new(alloc, a)?, Shared::new(alloc, b)?)))
+            let b = Shared::new(alloc, b)?;
+            Ok(Some(Form::Implies(a, b)))
         }
         QForm::All(_, _) | QForm::Exists(_, _) => Ok(None),
     }
