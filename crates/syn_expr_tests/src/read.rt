@@ -250,6 +250,30 @@ fn round(alloc: Global, before: &str, after: &str, times: u32) -> Result<String,
     Ok(text)
 }
 
+#[test]
+fn reads_up_to_the_limits(rt: HostRuntime) -> Result<(), Fail> {
+    let alloc = rt.alloc();
+    for (before, times, reads) in [
+        ("not ", 1_199, true),
+        ("not ", 1_200, false),
+        ("true and ", 4_094, true),
+        ("true and ", 4_095, false),
+    ] {
+        let text = round(alloc, before, "", times)?;
+        let got = is_read(alloc, "form", text.as_str())?;
+        assert!(rt; reads == got, "at {times} times {before}");
+    }
+    Ok(())
+}
+
+#[test]
+fn reads_many_brackets(rt: HostRuntime) -> Result<(), Fail> {
+    let alloc = rt.alloc();
+    let text = round(alloc, "(", ")", 1_000_000)?;
+    assert!(rt; is_read(alloc, "form", text.as_str())?);
+    Ok(())
+}
+
 /// A choice whose test is a chain with so many members after the first.
 fn choice(alloc: Global, more: u32) -> Result<String, Fail> {
     let mut text = String::from_str(alloc, "if ")?;
@@ -261,19 +285,8 @@ fn choice(alloc: Global, more: u32) -> Result<String, Fail> {
 }
 
 #[test]
-fn reads_up_to_the_limits(rt: HostRuntime) -> Result<(), Fail> {
+fn reads_larger_bodies(rt: HostRuntime) -> Result<(), Fail> {
     let alloc = rt.alloc();
-    for (before, after, times, reads) in [
-        ("not ", "", 1_199, true),
-        ("not ", "", 1_200, false),
-        ("true and ", "", 4_094, true),
-        ("true and ", "", 4_095, false),
-        ("(", ")", 1_000_000, true),
-    ] {
-        let text = round(alloc, before, after, times)?;
-        let got = is_read(alloc, "form", text.as_str())?;
-        assert!(rt; reads == got, "at {times} times {before}");
-    }
     for (kind, more, reads) in [
         ("out", 4_091, true),
         ("out", 4_092, false),
