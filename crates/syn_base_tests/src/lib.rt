@@ -1,9 +1,8 @@
 //! Tests of the crates at the bottom, each a table of cases: symbols and terms, tokens and lines,
 //! formulas and outputs, files and texts. A proof says what an answer means; a table says that the
-//! answer comes.
+//! answer comes. The formulas that are written as codes are no tests, since definitions speak of them.
 #![tactic(auto)]
 
-#[cfg(test)]
 mod codes;
 #[cfg(test)]
 mod formulas;
@@ -15,7 +14,6 @@ mod names;
 mod outside;
 #[cfg(test)]
 mod positions;
-#[cfg(test)]
 mod simplification;
 #[cfg(test)]
 mod sorts;
