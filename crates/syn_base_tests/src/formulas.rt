@@ -125,7 +125,7 @@ fn counts_shared_parts_as_often_as_they_stand(rt: HostRuntime) -> Result<(), Fai
 }
 
 /// So many nodes one below the other: `not not .. not true`.
-fn tall(alloc: Global, nodes: u32) -> Result<Shared<Form>, NoMemory>
+pub fn tall(alloc: Global, nodes: u32) -> Result<Shared<Form>, NoMemory>
     ensures { IfOk result (λ f. form_terms f ≡ []) }
 {
     let mut f = Shared::new(alloc, Form::True)?;
@@ -136,7 +136,7 @@ fn tall(alloc: Global, nodes: u32) -> Result<Shared<Form>, NoMemory>
 }
 
 /// A chain of so many nodes.
-fn wide(alloc: Global, nodes: u32) -> Result<Shared<Form>, NoMemory>
+pub fn wide(alloc: Global, nodes: u32) -> Result<Shared<Form>, NoMemory>
     ensures { IfOk result (λ f. form_terms f ≡ []) }
 {
     let mut all = Items::new(alloc);

@@ -14,6 +14,8 @@ mod names;
 mod outside;
 #[cfg(test)]
 mod positions;
+#[cfg(test)]
+mod replacing;
 mod simplification;
 #[cfg(test)]
 mod sorts;

@@ -39,3 +39,8 @@ pub mod InputTerms
 pub mod MadeTerms
 pub mod OnTerms
 pub mod PutInputs
+pub mod TreeParts
+pub mod ReplacingPlaces
+pub mod ReplacedTerms
+pub mod PlacesKept
+pub mod ValuesKept

@@ -1,10 +1,10 @@
 -- Terms made one after another, each from a term of a list: what is made so far, and how many nodes.
-use Rattle.std.proofs.Common.{◌≡◌, ℕ, zero, suc, ◌+◌, ◌<◌, ◌≤◌, List, [], ◌∷◌, ◌++◌, All, map, sum, take, length, get_or, sym, ◌∙◌, ap, subst, arith, refl}
+use Rattle.std.proofs.Common.{◌≡◌, ℕ, ◌+◌, ◌<◌, ◌≤◌, List, [], ◌∷◌, ◌++◌, All, map, sum, take, length, get_or, sym, ◌∙◌, ap, subst, arith}
 use Rattle.std.proofs.lemmas.List.{take_more, map-append}
 use Rattle.std.proofs.lemmas.List.Sums.{sum-map, sum_by_more, sum_by_more_le}
 use Rattle.std.proofs.lemmas.List.Elements.{All-nil, All-cons, All-append, All-get_or}
 use Rattle.syn_term.specs.Bank.{Kept, Belongs, Extends, Belongs-extends}
-use Rattle.syn_term.specs.Terms.{TermTree, bare, nodes}
+use Rattle.syn_term.specs.Terms.{TermTree}
 
 module _ {X : Type 0} (n : X → ℕ) where
   -- the sum so far and the next item

@@ -1,7 +1,6 @@
 -- Formulas with their terms changed: what each kind of formula becomes, and how many nodes its terms have.
-use Rattle.std.proofs.Common.{◌≡◌, ℕ, ◌+◌, ◌<◌, ◌≤◌, List, [], ◌∷◌, ◌++◌, All, map, sum, take, length, get_or, refl, sym, ◌∙◌, ap, subst, arith}
+use Rattle.std.proofs.Common.{◌≡◌, ℕ, ◌+◌, ◌<◌, ◌≤◌, List, [], ◌∷◌, ◌++◌, All, map, sum, get_or, refl, sym, ◌∙◌, ap, subst, arith}
 use Rattle.std.specs.List.{flat_map}
-use Rattle.std.proofs.lemmas.List.{map-append}
 use Rattle.std.proofs.lemmas.Grind.{flat_map-append}
 use Rattle.std.proofs.lemmas.List.Sums.{sum-map, sum_by-append, sum_by-cons}
 use Rattle.std.proofs.lemmas.List.Elements.{All-nil, All-cons, All-append}
@@ -14,7 +13,7 @@ use Rattle.syn_form.specs.Inputs.{on_terms, on_terms_step, terms_size}
 use Rattle.syn_form.specs.inner.Joining.{terms_of}
 use Rattle.syn_form.specs.Simplification.{Junction, conjunction, disjunction, chain}
 use Rattle.syn_form.specs.Trees.{FormTree, form_nodes, bare_form, bare_form_step, form_terms}
-use Rattle.syn_form.proofs.Equations.{fold-True, fold-False, fold-Atom, fold-Equal, fold-Not, fold-And, fold-Or, fold-Implies, bare_form-Atom, bare_form-Equal, bare_form-Not, bare_form-Implies, form_nodes-Not, form_terms-Atom, form_terms-Equal, form_terms-Not, form_terms-Implies}
+use Rattle.syn_form.proofs.Equations.{fold-Atom, fold-Equal, fold-Not, fold-And, fold-Or, fold-Implies, bare_form-Atom, bare_form-Equal, bare_form-Not, bare_form-Implies, form_nodes-Not, form_terms-Atom, form_terms-Equal, form_terms-Not, form_terms-Implies}
 use Rattle.syn_form.proofs.SimplifiedTerms.{form_terms-chain}
 
 chain_bare : (j : Junction) (all : List FormTree) → bare_form (chain j all) ≡ chain j (map bare_form all)

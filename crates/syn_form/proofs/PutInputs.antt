@@ -1,9 +1,9 @@
 -- What putting terms in place of input symbols keeps: plainness, variables and values.
-use Rattle.std.proofs.Common.{◌≡◌, ◌⊎◌, ◌≤◌, Bool, true, false, not, ◌||◌, List, [], ◌∷◌, ◌++◌, Option, None, Some, All, Contains, map, length, get_or, refl, sym, ◌∙◌, ap, subst}
+use Rattle.std.proofs.Common.{◌≡◌, ◌⊎◌, List, [], ◌∷◌, ◌++◌, Option, None, Some, All, Contains, map, get_or, refl, sym, ◌∙◌, ap, subst}
 use Rattle.std.specs.Option.{unwrap_or}
 use Rattle.std.specs.List.{flat_map}
-use Rattle.std.proofs.lemmas.List.{length-map, map-append}
-use Rattle.std.proofs.lemmas.List.Elements.{All-nil, All-cons, All-head, All-tail, All-map, Contains-append_left, Contains-append_right, Contains-append_cases, Contains-get_or}
+use Rattle.std.proofs.lemmas.List.{map-append}
+use Rattle.std.proofs.lemmas.List.Elements.{All-head, All-tail, All-map, Contains-append_left, Contains-append_right, Contains-append_cases, Contains-get_or}
 use mathlib.Core.Logic.{inl, inr}
 use Rattle.syn_term.specs.declared.sorts.SymId.{SymId}
 use Rattle.syn_term.specs.declared.sorts.Var.{Var}
@@ -11,22 +11,22 @@ use Rattle.syn_term.specs.declared.term.Place.{Place}
 use Rattle.syn_term.specs.declared.term.Node.TheVariants as node
 use Rattle.syn_term.specs.declared.term.Node.TheViews as view
 use Rattle.syn_term.specs.Symbols.{SymbolTable}
-use Rattle.syn_term.specs.Terms.{TermTree, IsApplication, application, nowhere, sort_of, variable_tree}
+use Rattle.syn_term.specs.Terms.{TermTree, IsApplication, application, nowhere, sort_of}
 use Rattle.syn_term.proofs.Trees.{fold-App, fold-Var}
 use Rattle.syn_form.specs.declared.trees.Form.TheVariants as form
 use Rattle.syn_form.specs.declared.trees.Form.TheViews as form_view
 use Rattle.syn_form.specs.Trees.{FormTree, form_terms, form_terms_step, form_vars, term_vars, term_vars_step}
-use Rattle.syn_form.specs.Plain.{IsAtom, IsFormed, IsPlainForm, IsSorted, PlainFormNode, SortedNode, HasOneSortEach, IsKnownSort, result_of}
-use Rattle.syn_form.specs.Simplification.{Junction, conjunction, disjunction, chain}
-use Rattle.syn_form.specs.Inputs.{Inputs, AreInputs, IsInput, listed_term, input_term, with_inputs, with_inputs_step, on_terms, on_terms_step, form_with_inputs}
+use Rattle.syn_form.specs.Plain.{IsAtom, IsFormed, IsSorted, PlainFormNode, SortedNode, IsKnownSort, result_of}
+use Rattle.syn_form.specs.Simplification.{chain}
+use Rattle.syn_form.specs.Inputs.{Inputs, AreInputs, listed_term, input_term, with_inputs, with_inputs_step, on_terms, on_terms_step, form_with_inputs}
 use Rattle.syn_form.specs.InputLaws.{PutsInputs, input_vars}
-use Rattle.syn_form.proofs.Equations.{fold-True, fold-False, fold-Atom, fold-Equal, fold-Not, fold-And, fold-Or, fold-Implies, out-Atom}
+use Rattle.syn_form.proofs.Equations.{fold-True, fold-False, fold-Atom, fold-Equal, fold-Not, fold-Implies}
 use Rattle.syn_form.proofs.Inductions.{by_form_cases}
-use Rattle.syn_form.proofs.Lists.{Contains-along, Contains-flat_map, Contains-flat_map_from, all_of-map}
-use Rattle.syn_form.proofs.Nodes.{chain_layer, part-Not, parts-chain, parts-Implies, node-chain, node-Equal, every-True, every-False, every-Atom, every-Equal, every-Not, every-Implies, every-chain}
+use Rattle.syn_form.proofs.Lists.{Contains-along, Contains-flat_map_from, all_of-map}
+use Rattle.syn_form.proofs.Nodes.{part-Not, parts-Implies, node-Equal, every-Atom, every-Equal, every-Not, every-Implies}
 use Rattle.syn_form.proofs.SimplifiedPlain.{HasOneSortEach-among}
 use Rattle.syn_form.proofs.SimplifiedTerms.{form_terms-chain}
-use Rattle.syn_form.proofs.FormedForms.{atom_formed, equality_formed}
+use Rattle.syn_form.proofs.FormedForms.{atom_formed}
 use Rattle.syn_form.proofs.ReplacingAll.{chain-formed}
 use Rattle.syn_form.proofs.OnTerms.{on_terms-chain}
 use Rattle.syn_form.proofs.TermNodes.{by_term_cases, node-App, node-Var, parts-App, every-App, every-Var}

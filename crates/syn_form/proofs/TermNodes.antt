@@ -26,7 +26,7 @@ all_with P xs = All-map P (tree_of P) xs (λ k d lt. (get_or xs k d).1)
 out-Var : (p : Place) (v : Var) → out-Node (node.Var p v) ≡ Node-F.Var p v
 out-Var p v = search (rules, the_lemmas)
 
-out-App : (p : Place) (f : SymId) (args : List Node) → out-Node (view.App p f args) ≡ Node-F.App p f args
+pub out-App : (p : Place) (f : SymId) (args : List Node) → out-Node (view.App p f args) ≡ Node-F.App p f args
 out-App p f args = search (rules, the_lemmas)
 
 -- the arguments as pairs

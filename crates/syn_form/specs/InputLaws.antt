@@ -1,5 +1,5 @@
 -- Public. What putting terms in place of input symbols does to a formula, for whoever only needs that much.
-use Rattle.std.specs.Prelude.{◌≡◌, ◌⊎◌, List, ◌++◌, All, Contains, map}
+use Rattle.std.specs.Prelude.{◌≡◌, List, ◌++◌, All, Contains, map}
 use Rattle.std.specs.List.{flat_map}
 use Rattle.syn_term.specs.declared.sorts.Var.{Var}
 use Rattle.syn_term.specs.Symbols.{SymbolTable}

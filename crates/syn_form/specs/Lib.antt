@@ -20,3 +20,4 @@ pub mod ReplacingLaws
 pub mod Inputs
 pub mod InputLaws
 pub mod inner
+pub mod Valuations

@@ -14,7 +14,7 @@ pub data TreePart : Type 0 where
   formula : FormTree → TreePart
   term : TermTree → TreePart
 
-abbrev form_parts_layer : Form-F FormTree → List TreePart
+abbrev pub form_parts_layer : Form-F FormTree → List TreePart
 form_parts_layer (Form-F.Atom r args) = map term args
 form_parts_layer (Form-F.Equal s t) = term s ∷ term t ∷ []
 form_parts_layer (Form-F.Not a) = formula a ∷ []

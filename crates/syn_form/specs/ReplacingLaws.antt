@@ -1,16 +1,18 @@
--- What replacing does to a formula, for whoever only needs that much.
-use Rattle.std.specs.Prelude.{◌≡◌, Bool, true, false, List, Contains, map}
+-- Public. What replacing does to a formula, for whoever only needs that much.
+use Rattle.std.specs.Prelude.{◌≡◌, ℕ, Bool, true, false, List, ◌++◌, Some, Contains, map}
 use Rattle.syn_term.specs.declared.sorts.SymId.{SymId}
 use Rattle.syn_term.specs.declared.sorts.Var.{Var}
+use Rattle.syn_term.specs.Positions.{AreApart}
 use Rattle.syn_term.specs.Symbols.{SymbolTable}
 use Rattle.syn_term.specs.Terms.{TermTree}
 use Rattle.syn_form.specs.declared.trees.Form.TheVariants as form
 use Rattle.syn_form.specs.declared.trees.Form.TheViews as view
-use Rattle.syn_form.specs.Trees.{FormTree, form_terms, form_vars}
+use Rattle.syn_form.specs.Trees.{FormTree, form_terms, form_vars, term_vars}
 use Rattle.syn_form.specs.Same.{same_form}
-use Rattle.syn_form.specs.Plain.{IsFormed, IsPlainForm}
+use Rattle.syn_form.specs.Plain.{IsFormed, IsPlainForm, IsSorted, HasOneSortEach}
+use Rattle.syn_form.specs.Positions.{formula, term, at_position}
 use Rattle.syn_form.specs.Truth.{Assignment, truth_value}
-use Rattle.syn_form.specs.Replacing.{truth_form, replaced_all}
+use Rattle.syn_form.specs.Replacing.{truth_form, replaced_all, MayReplaceTerm, form_replaced_at}
 
 -- What all subformulas that are the same as the part become: one of them is replaced as a whole, and any other formula
 -- is left but for its parts.
@@ -34,3 +36,13 @@ pub record ReplacesAll (part : FormTree) (by : Bool) (f g : FormTree) : Type 0 w
   pub plain : (table : SymbolTable) → IsPlainForm table f → IsPlainForm table g
   pub terms : (t : TermTree) → Contains (form_terms g) t → Contains (form_terms f) t
   pub variables : (v : Var) → Contains (form_vars g) v → Contains (form_vars f) v
+
+-- At the position stands the new term then, and where neither position is on the way to the other, what stood there before.
+-- Where the new term is sorted, the formula that comes of a formed one is formed, and plain where no variable number has two
+-- sorts in it and the new term together. Its variables are among those of the formula and of the new term.
+pub record ReplacesTerm (p : List ℕ) (new : TermTree) (f : FormTree) : Type 0 where
+  pub there : (old : TermTree) → at_position p (formula f) ≡ Some (term old) → at_position p (formula (form_replaced_at p new f)) ≡ Some (term new)
+  pub other : (q : List ℕ) → AreApart p q → at_position q (formula (form_replaced_at p new f)) ≡ at_position q (formula f)
+  pub formed : (table : SymbolTable) → MayReplaceTerm table f p new → IsSorted table new → IsFormed table f → IsFormed table (form_replaced_at p new f)
+  pub plain : (table : SymbolTable) → MayReplaceTerm table f p new → IsSorted table new → IsFormed table f → HasOneSortEach (form_vars f ++ term_vars new) → IsPlainForm table (form_replaced_at p new f)
+  pub variables : (old : TermTree) → at_position p (formula f) ≡ Some (term old) → (v : Var) → Contains (form_vars (form_replaced_at p new f)) v → Contains (form_vars f ++ term_vars new) v

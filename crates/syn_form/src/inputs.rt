@@ -1,10 +1,11 @@
 // Formulas with terms in place of input symbols. All nodes are made anew by the bank, so no term of the
 // formula has to be its own.
-ghost use Rattle.std.specs.Prelude.{◌≡◌, ◌≤◌, ◌+◌, map, sum, All, IfOk};
+ghost use Rattle.std.specs.Prelude.{◌≡◌, ◌≤◌, ◌↔◌, ◌+◌, map, sum, All, IfOk, IsTrue};
 ghost use Rattle.std.specs.Option.{option_copied};
 ghost use Rattle.syn_term.specs.Bank.{Belongs, Extends};
 ghost use Rattle.syn_term.specs.Terms.{bare, nodes};
-ghost use Rattle.syn_form.specs.Inputs.{AreInputs, InputsBelong, form_with_inputs, listed_term, terms_size, with_inputs};
+ghost use Rattle.syn_form.specs.declared.trees.Form.TheVariants as form;
+ghost use Rattle.syn_form.specs.Inputs.{AreInputs, InputsBelong, IsInput, form_with_inputs, listed_term, terms_size, with_inputs};
 ghost use Rattle.syn_form.specs.InputLaws.{PutsInputs};
 ghost use Rattle.syn_form.specs.inner.Joining.{terms_of};
 ghost use Rattle.syn_form.specs.Plain.{IsFormed, IsSorted};
@@ -13,7 +14,29 @@ ghost use Rattle.syn_form.specs.Trees.{bare_form, form_terms};
 use crate::trees::Form;
 use sqlite_items::Items;
 use std::alloc::Global;
-use syn_term::{Bank, NoMemory, Node, Shared, SymId, Symbols, Term};
+use syn_term::{Bank, Kind, NoMemory, Node, Shared, SymId, Symbols, Term};
+
+/// Whether the symbol is an input symbol of the table, and the term of its sort.
+fn is_input(syms: &Symbols, entry: &(SymId, Term)) -> bool
+    ensures { IsTrue result ↔ IsInput syms.now entry.now }
+{
+    match syms.get(entry.0) {
+        None => false,
+        Some(sym) => sym.kind == Kind::Input && entry.1.sort_in(syms) == sym.result,
+    }
+}
+
+/// Whether each is an input symbol of the table with a term of its sort.
+pub fn are_inputs(syms: &Symbols, inputs: &[(SymId, Term)]) -> bool
+    ensures { IsTrue result ↔ AreInputs syms.now inputs.now }
+{
+    for entry in inputs {
+        if !is_input(syms, entry) {
+            return false;
+        }
+    }
+    true
+}
 
 /// The term that is listed for the symbol, the first if there are several.
 fn listed(inputs: &[(SymId, Term)], f: SymId) -> Option<&Term>
@@ -89,6 +112,52 @@ fn put_in_terms(
     Ok(done)
 }
 
+/// The atom with each listed symbol replaced.
+#[tactic(auto, using(crate::proofs::InputTerms::growth))]
+fn put_in_atom(
+    bank: &mut Bank,
+    alloc: Global,
+    syms: &Symbols,
+    r: SymId,
+    args: &[Term],
+    inputs: &[(SymId, Term)],
+) -> Result<Form, NoMemory>
+    requires inputs { AreInputs syms.now inputs.now }
+    requires sorted { All (IsSorted syms.now) args.now }
+    requires own { InputsBelong bank.old inputs.now }
+    ensures tree { IfOk result (λ g. bare_form g ≡ bare_form (form_with_inputs inputs.now (form.Atom r args.now))) }
+    ensures made { bank.new.made ≤ bank.old.made + sum (map nodes args.now) }
+    ensures extends { Extends bank.old bank.new }
+    ensures belongs { IfOk result (λ g. All (Belongs bank.new) (form_terms g)) }
+{
+    let args = put_in_terms(bank, alloc, syms, args, inputs)?;
+    Ok(Form::Atom(r, Shared::new(alloc, args)?))
+}
+
+/// The equality with each listed symbol replaced.
+#[tactic(auto, using(crate::proofs::InputTerms::growth))]
+fn put_in_equality(
+    bank: &mut Bank,
+    alloc: Global,
+    syms: &Symbols,
+    s: &Term,
+    t: &Term,
+    inputs: &[(SymId, Term)],
+) -> Result<Form, NoMemory>
+    requires inputs { AreInputs syms.now inputs.now }
+    requires left { IsSorted syms.now s.now }
+    requires right { IsSorted syms.now t.now }
+    requires own { InputsBelong bank.old inputs.now }
+    ensures tree { IfOk result (λ g. bare_form g ≡ bare_form (form_with_inputs inputs.now (form.Equal s.now t.now))) }
+    ensures made { bank.new.made ≤ bank.old.made + (nodes s.now + nodes t.now) }
+    ensures extends { Extends bank.old bank.new }
+    ensures belongs { IfOk result (λ g. All (Belongs bank.new) (form_terms g)) }
+{
+    let s = put_in_term(bank, alloc, syms, s, inputs)?;
+    let t = put_in_term(bank, alloc, syms, t, inputs)?;
+    Ok(Form::Equal(s, t))
+}
+
 /// The formula with each listed symbol replaced.
 #[cycle(forms)]
 #[tactic(auto, using(crate::proofs::InputTerms::growth))]
@@ -110,26 +179,19 @@ fn put_in_form(
     match f {
         Form::True => Ok(Form::True),
         Form::False => Ok(Form::False),
-        Form::Atom(r, args) => {
-            let args = put_in_terms(bank, alloc, syms, args.get().as_slice(), inputs)?;
-            Ok(Form::Atom(*r, Shared::new(alloc, args)?))
-        }
-        Form::Equal(s, t) => {
-            let s = put_in_term(bank, alloc, syms, s, inputs)?;
-            let t = put_in_term(bank, alloc, syms, t, inputs)?;
-            Ok(Form::Equal(s, t))
-        }
+        Form::Atom(r, args) => put_in_atom(bank, alloc, syms, *r, args.get().as_slice(), inputs),
+        Form::Equal(s, t) => put_in_equality(bank, alloc, syms, s, t, inputs),
         Form::Not(a) => {
             let a = put_in_form(bank, alloc, syms, a.get(), inputs)?;
             Ok(Form::Not(Shared::new(alloc, a)?))
         }
         Form::And(all) => {
             let all = put_in_forms(bank, alloc, syms, all.get().as_slice(), inputs)?;
-            Ok(Form::And(Shared::new(alloc, all)?))
+            Ok(Form::And(all))
         }
         Form::Or(all) => {
             let all = put_in_forms(bank, alloc, syms, all.get().as_slice(), inputs)?;
-            Ok(Form::Or(Shared::new(alloc, all)?))
+            Ok(Form::Or(all))
         }
         Form::Implies(a, b) => {
             let a = Shared::new(alloc, put_in_form(bank, alloc, syms, a.get(), inputs)?)?;
@@ -148,7 +210,7 @@ fn put_in_forms(
     syms: &Symbols,
     fs: &[Form],
     inputs: &[(SymId, Term)],
-) -> Result<Items<Form>, NoMemory>
+) -> Result<Shared<Items<Form>>, NoMemory>
     requires inputs { AreInputs syms.now inputs.now }
     requires formed { All (IsFormed syms.now) fs.now }
     requires own { InputsBelong bank.old inputs.now }
@@ -161,7 +223,7 @@ fn put_in_forms(
     for f in fs {
         done.push(put_in_form(bank, alloc, syms, f, inputs)?)?;
     }
-    Ok(done)
+    Ok(Shared::new(alloc, done)?)
 }
 
 /// The formula with each listed input symbol replaced by its term, everywhere at once: what stands in

@@ -1,5 +1,5 @@
-use Rattle.std.proofs.Common.{◌≡◌, ◌+◌, ◌*◌, ◌<◌, ◌∙◌, ◌⊎◌, inl, inr, All, length, map, sum, refl, arith}
-use Rattle.syn_term.specs.Bank.{Belongs, Belongs-extends, Extends-trans}
+use Rattle.std.proofs.Common.{◌+◌, ◌*◌, ◌<◌, ◌∙◌, inl, inr, length, map, sum, refl, arith}
+use Rattle.syn_term.specs.Bank.{Belongs, Extends-trans}
 use Rattle.syn_form.specs.Inputs.{form_with_inputs, terms_size}
 use Rattle.syn_form.specs.Plain.{IsFormed}
 use Rattle.syn_form.specs.Simplification.{conjunction, disjunction}
@@ -8,21 +8,9 @@ use Rattle.syn_form.proofs.Fewer.{fewer_left, fewer_right, no_more}
 use Rattle.syn_form.proofs.FormedForms.{atom_formed, equality_formed, negation_formed, chain_formed, implication_formed}
 use Rattle.syn_form.proofs.InputTerms.{all_still, inputs_still}
 use Rattle.syn_form.proofs.MadeTerms.{count_more, count_within, item_of, made_more}
-use Rattle.syn_form.proofs.OnTerms.{all-Equal, all-chain, all-Implies, fewer_negated, made_chain, made_left, made_both, terms_more}
+use Rattle.syn_form.proofs.OnTerms.{all-chain, all-Implies, fewer_negated, made_chain, made_left, made_both, terms_more}
 use Rattle.syn_form.proofs.ReplacingEnds.{fewer_members}
 use Rattle.syn_form.proofs.inputs.+forms.Goals as goal
-
-pub put_in_form-put_in_terms-requires-clause-sorted : goal.put_in_form-put_in_terms-requires-clause-sorted
-put_in_form-put_in_terms-requires-clause-sorted t c = ((atom_formed _ _ _ _ _ c.in-Atom.is (c.as_slice.ensures ∙ c.get.ensures)).0 c.requires.formed).1
-
-pub put_in_form-put_in_term-requires-clause-sorted : goal.put_in_form-put_in_term-requires-clause-sorted
-put_in_form-put_in_term-requires-clause-sorted t c = ((equality_formed _ _ _ _ c.in-Equal.is).0 c.requires.formed).0
-
-pub put_in_form-put_in_term-requires-in-Equal-clause-sorted : goal.put_in_form-put_in_term-requires-in-Equal-clause-sorted
-put_in_form-put_in_term-requires-in-Equal-clause-sorted t c = ((equality_formed _ _ _ _ c.in-Equal.is).0 c.requires.formed).1
-
-pub put_in_form-put_in_term-requires-in-Equal-clause-own : goal.put_in_form-put_in_term-requires-in-Equal-clause-own
-put_in_form-put_in_term-requires-in-Equal-clause-own t c = inputs_still _ _ _ c.put_in_term.ensures.extends c.requires.own
 
 pub put_in_form-put_in_form-requires : goal.put_in_form-put_in_form-requires
 put_in_form-put_in_form-requires t c =
@@ -38,14 +26,11 @@ put_in_form-put_in_forms-requires t c =
 pub put_in_form-returns-in_err-all-in-And-clause-made : goal.put_in_form-returns-in_err-all-in-And-clause-made
 put_in_form-returns-in_err-all-in-And-clause-made t c = made_chain _ _ _ conjunction _ _ c.in-And.is (c.as_slice-in-And.ensures ∙ c.get-in-And.ensures) c.put_in_forms.ensures.made
 
-pub put_in_form-returns-in_err-new-in-And-clause-made : goal.put_in_form-returns-in_err-new-in-And-clause-made
-put_in_form-returns-in_err-new-in-And-clause-made t c = made_chain _ _ _ conjunction _ _ c.in-And.is (c.as_slice-in-And.ensures ∙ c.get-in-And.ensures) c.put_in_forms.ensures.made
+pub put_in_form-returns-in_ok-all-in-And-clause-made : goal.put_in_form-returns-in_ok-all-in-And-clause-made
+put_in_form-returns-in_ok-all-in-And-clause-made t c = made_chain _ _ _ conjunction _ _ c.in-And.is (c.as_slice-in-And.ensures ∙ c.get-in-And.ensures) c.put_in_forms.ensures.made
 
-pub put_in_form-returns-in_ok-new-in-And-clause-made : goal.put_in_form-returns-in_ok-new-in-And-clause-made
-put_in_form-returns-in_ok-new-in-And-clause-made t c = made_chain _ _ _ conjunction _ _ c.in-And.is (c.as_slice-in-And.ensures ∙ c.get-in-And.ensures) c.put_in_forms.ensures.made
-
-pub put_in_form-returns-in_ok-new-in-And-clause-belongs : goal.put_in_form-returns-in_ok-new-in-And-clause-belongs
-put_in_form-returns-in_ok-new-in-And-clause-belongs t c = all-chain (Belongs _) conjunction _ _ c.in_ok-new-in-And.ensures c.in_ok-all-in-And.ensures.belongs
+pub put_in_form-returns-in_ok-all-in-And-clause-belongs : goal.put_in_form-returns-in_ok-all-in-And-clause-belongs
+put_in_form-returns-in_ok-all-in-And-clause-belongs t c = all-chain (Belongs _) conjunction _ _ refl c.in_ok-all-in-And.ensures.belongs
 
 pub put_in_form-put_in_forms-requires-in-Or : goal.put_in_form-put_in_forms-requires-in-Or
 put_in_form-put_in_forms-requires-in-Or t c =
@@ -56,14 +41,11 @@ put_in_form-put_in_forms-requires-in-Or t c =
 pub put_in_form-returns-in_err-all-in-Or-clause-made : goal.put_in_form-returns-in_err-all-in-Or-clause-made
 put_in_form-returns-in_err-all-in-Or-clause-made t c = made_chain _ _ _ disjunction _ _ c.in-Or.is (c.as_slice-in-Or.ensures ∙ c.get-in-Or.ensures) c.put_in_forms-in-Or.ensures.made
 
-pub put_in_form-returns-in_err-new-in-Or-clause-made : goal.put_in_form-returns-in_err-new-in-Or-clause-made
-put_in_form-returns-in_err-new-in-Or-clause-made t c = made_chain _ _ _ disjunction _ _ c.in-Or.is (c.as_slice-in-Or.ensures ∙ c.get-in-Or.ensures) c.put_in_forms-in-Or.ensures.made
+pub put_in_form-returns-in_ok-all-in-Or-clause-made : goal.put_in_form-returns-in_ok-all-in-Or-clause-made
+put_in_form-returns-in_ok-all-in-Or-clause-made t c = made_chain _ _ _ disjunction _ _ c.in-Or.is (c.as_slice-in-Or.ensures ∙ c.get-in-Or.ensures) c.put_in_forms-in-Or.ensures.made
 
-pub put_in_form-returns-in_ok-new-in-Or-clause-made : goal.put_in_form-returns-in_ok-new-in-Or-clause-made
-put_in_form-returns-in_ok-new-in-Or-clause-made t c = made_chain _ _ _ disjunction _ _ c.in-Or.is (c.as_slice-in-Or.ensures ∙ c.get-in-Or.ensures) c.put_in_forms-in-Or.ensures.made
-
-pub put_in_form-returns-in_ok-new-in-Or-clause-belongs : goal.put_in_form-returns-in_ok-new-in-Or-clause-belongs
-put_in_form-returns-in_ok-new-in-Or-clause-belongs t c = all-chain (Belongs _) disjunction _ _ c.in_ok-new-in-Or.ensures c.in_ok-all-in-Or.ensures.belongs
+pub put_in_form-returns-in_ok-all-in-Or-clause-belongs : goal.put_in_form-returns-in_ok-all-in-Or-clause-belongs
+put_in_form-returns-in_ok-all-in-Or-clause-belongs t c = all-chain (Belongs _) disjunction _ _ refl c.in_ok-all-in-Or.ensures.belongs
 
 pub put_in_form-put_in_form-requires-in-Implies : goal.put_in_form-put_in_form-requires-in-Implies
 put_in_form-put_in_form-requires-in-Implies t c =
@@ -92,9 +74,6 @@ put_in_form-returns-in_err-b-in-Implies-clause-made t c = made_both _ _ _ _ _ _ 
 pub put_in_form-returns-in_ok-b-in-Implies-clause-made : goal.put_in_form-returns-in_ok-b-in-Implies-clause-made
 put_in_form-returns-in_ok-b-in-Implies-clause-made t c = made_both _ _ _ _ _ _ _ _ c.in-Implies.is c.get-in-Implies.ensures c.get-in-Implies-2.ensures c.put_in_form-in-Implies.ensures.made c.put_in_form-in-Implies-2.ensures.made
 
-pub put_in_form-returns-in_ok-t-in-Equal-clause-belongs : goal.put_in_form-returns-in_ok-t-in-Equal-clause-belongs
-put_in_form-returns-in_ok-t-in-Equal-clause-belongs t c = all-Equal (Belongs _) _ _ (Belongs-extends _ _ _ c.put_in_term-in-Equal.ensures.extends c.in_ok-s-in-Equal.ensures.belongs) c.in_ok-t-in-Equal.ensures.belongs
-
 pub put_in_form-returns-in_ok-b-in-Implies-clause-belongs : goal.put_in_form-returns-in_ok-b-in-Implies-clause-belongs
 put_in_form-returns-in_ok-b-in-Implies-clause-belongs t c = all-Implies (Belongs _) _ _ _ _ c.in_ok-a-in-Implies.ensures c.in_ok-b-in-Implies.ensures (all_still _ _ _ c.put_in_form-in-Implies-2.ensures.extends c.in_ok-put_in_form-in-Implies.ensures.belongs) c.in_ok-put_in_form-in-Implies-2.ensures.belongs
 
@@ -117,3 +96,12 @@ put_in_forms-loop-f-preserved t c = record {
   extends = Extends-trans _ _ _ c.loop-f.invariant.extends c.put_in_form.ensures.extends;
   belongs = terms_more _ _ _ _ _ c.put_in_form.ensures.extends c.loop-f.invariant.belongs c.in_ok-put_in_form.ensures.belongs c.in_ok-push.ensures.ok;
 }
+
+pub put_in_form-put_in_atom-requires-clause-sorted : goal.put_in_form-put_in_atom-requires-clause-sorted
+put_in_form-put_in_atom-requires-clause-sorted t c = ((atom_formed _ _ _ _ _ c.in-Atom.is (c.as_slice.ensures ∙ c.get.ensures)).0 c.requires.formed).1
+
+pub put_in_form-put_in_equality-requires-clause-left : goal.put_in_form-put_in_equality-requires-clause-left
+put_in_form-put_in_equality-requires-clause-left t c = ((equality_formed _ _ _ _ c.in-Equal.is).0 c.requires.formed).0
+
+pub put_in_form-put_in_equality-requires-clause-right : goal.put_in_form-put_in_equality-requires-clause-right
+put_in_form-put_in_equality-requires-clause-right t c = ((equality_formed _ _ _ _ c.in-Equal.is).0 c.requires.formed).1

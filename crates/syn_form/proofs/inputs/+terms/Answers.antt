@@ -1,4 +1,4 @@
-use Rattle.std.proofs.Common.{◌≡◌, ◌+◌, ◌*◌, ◌<◌, ◌∙◌, length, map, sum, Some, refl, sym, ap, arith}
+use Rattle.std.proofs.Common.{◌+◌, ◌*◌, ◌<◌, ◌∙◌, length, map, sum, Some, refl, sym, ap, arith}
 use Rattle.syn_term.specs.Bank.{Extends-trans}
 use Rattle.syn_term.specs.Terms.{bare, nodes}
 use Rattle.syn_form.specs.Inputs.{with_inputs}
