@@ -1,3 +1,4 @@
 pub mod TextLines
+pub mod Stepping
 pub mod Lexing
 pub mod inner

@@ -14,9 +14,11 @@ mod monos;
 mod naming;
 mod orders;
 mod patterns;
+mod spec_part;
 mod theory;
 mod turns;
 mod uses;
 
 pub use decl::Decl;
+pub use spec_part::SpecPart;
 pub use theory::{DeclError, Theory};

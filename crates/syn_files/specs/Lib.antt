@@ -1,0 +1,4 @@
+pub mod Words
+pub mod TheoryLines
+pub mod SpecLines
+pub mod Printed
