@@ -23,27 +23,26 @@ use Rattle.syn_model.specs.Theories.{TheoryTree}
 use Rattle.syn_files.specs.SpecLines.{output_names}
 use Rattle.syn_files.specs.TheoryLines.{direction, file_scope, heading_name, numbered}
 
--- `x` and the number, as `x1`
-abbrev pub plain_name : ℕ → List ℕ
-plain_name n = codes "x" ++ decimal n
+-- the name of the variable with a number: `x` and the number, as `x1`; with a mark, which is the same in the whole line, `x`, the mark,
+-- `_` and the number, as `x1_2`
+abbrev pub name_by : Option ℕ → ℕ → List ℕ
+name_by None n = codes "x" ++ decimal n
+name_by (Some j) n = codes "x" ++ decimal j ++ codes "_" ++ decimal n
 
--- `x`, a number that is the same in the whole line, `_` and the number, as `x1_2`
-abbrev pub marked_name : ℕ → ℕ → List ℕ
-marked_name j n = codes "x" ++ decimal j ++ codes "_" ++ decimal n
+-- none of these variables, numbered from 1, gets a name that is taken
+abbrev pub AreFree : (List ℕ → Type 0) → List Var → Option ℕ → Type 0
+AreFree Taken vars mark = (n : ℕ) → 1 ≤ n → n ≤ length vars → Taken (name_by mark n) → ⊥
 
--- none of these variables gets a name that is taken
-abbrev pub AreFree : (List ℕ → Type 0) → (ℕ → List ℕ) → List Var → Type 0
-AreFree Taken name vars = (n : ℕ) → 1 ≤ n → n ≤ length vars → Taken (name n) → ⊥
-
--- how the variables of a line are named: plainly, where no such name is taken, and else with the least mark from 1 on that gives none
--- a name that is taken
-pub data NamesLine (Taken : List ℕ → Type 0) (vars : List Var) : (ℕ → List ℕ) → Type 0 where
-  plainly : AreFree Taken plain_name vars → NamesLine Taken vars plain_name
-  marked : (j : ℕ) → 1 ≤ j → (AreFree Taken plain_name vars → ⊥) → AreFree Taken (marked_name j) vars → ((i : ℕ) → 1 ≤ i → i < j → AreFree Taken (marked_name i) vars → ⊥) → NamesLine Taken vars (marked_name j)
+-- the mark of a line with these variables: none, where no name without one is taken; else the least from 1 on that gives no name that is
+-- taken
+abbrev pub IsMark : (List ℕ → Type 0) → List Var → Option ℕ → Type 0
+IsMark Taken vars None = AreFree Taken vars None
+IsMark Taken vars (Some j) =
+    (1 ≤ j) × (AreFree Taken vars None → ⊥) × AreFree Taken vars (Some j) × ((i : ℕ) → 1 ≤ i → i < j → AreFree Taken vars (Some i) → ⊥)
 
 -- the variables with their names
-abbrev pub named_by : (ℕ → List ℕ) → List Var → List Named
-named_by name = map (λ v. record { text = name v.number; var = v })
+abbrev pub named_by : Option ℕ → List Var → List Named
+named_by mark = map (λ v. record { text = name_by mark v.number; var = v })
 
 -- the variables of a line, numbered from 1
 abbrev pub line_vars : Decl → List Var
@@ -71,26 +70,26 @@ abbrev pub mono_text : SymbolTable → Mono → List ℕ
 mono_text table m =
     symbol_text table m.rel ++ codes " " ++ direction m.up ++ codes " " ++ symbol_text table m.sym ++ codes " " ++ decimal m.place ++ option_map_or (λ r. codes " " ++ symbol_text table r) m.gives []
 
--- the line of a declaration, where the last heading has this name and variables these
-abbrev pub printed_decl : SymbolTable → List ℕ → (ℕ → List ℕ) → Decl → List ℕ
-printed_decl table own name (decl.ListSort list nil cons item) =
-    codes "sort " ++ list ++ codes " = " ++ nil ++ codes " | " ++ cons ++ codes "(" ++ sort_text table item ++ codes ", " ++ list ++ codes ")"
-printed_decl table own name (decl.TupleSort tuple make parts) =
-    codes "sort " ++ tuple ++ codes " = " ++ make ++ codes "(" ++ comma_list (map (sort_text table) parts) ++ codes ")"
-printed_decl table own name (decl.Fun f args result) =
-    codes "fun " ++ f ++ codes "(" ++ comma_list (map (sort_text table) args) ++ codes "): " ++ sort_text table result
-printed_decl table own name (decl.Rel r args) =
-    codes "rel " ++ r ++ codes "(" ++ comma_list (map (sort_text table) args) ++ codes ")"
-printed_decl table own name (decl.FunClause args body) =
-    clause_front table own (named_by name (flat_map term_vars args)) args ++ codes " = " ++ printed_out (file_scope table (named_by name (flat_map term_vars args))) body
-printed_decl table own name (decl.RelClause args body) =
-    clause_front table own (named_by name (flat_map term_vars args)) args ++ codes " <-> " ++ printed_form (file_scope table (named_by name (flat_map term_vars args))) body
-printed_decl table own name (decl.Order order args measure) =
-    codes "order " ++ order ++ codes "(" ++ comma_list (map (λ n. parameter_text table (record { name = n.text; sort = n.var.sort })) (named_by name (numbered 1 args))) ++ codes ") by " ++ printed_term (file_scope table (named_by name (numbered 1 args))) measure
-printed_decl table own name (decl.Axiom axiom form) =
-    codes "axiom " ++ axiom ++ codes ": " ++ printed_qform (file_scope table []) form
-printed_decl table own name (decl.Monotone mono m) =
-    codes "mono " ++ mono ++ codes ": " ++ mono_text table m
+-- the line of a declaration, where the last heading has this name, and this mark names the variables
+abbrev pub printed_decl : SymbolTable → List ℕ → Option ℕ → Decl → List ℕ
+printed_decl table own mark (decl.ListSort name nil cons item) =
+    codes "sort " ++ name ++ codes " = " ++ nil ++ codes " | " ++ cons ++ codes "(" ++ sort_text table item ++ codes ", " ++ name ++ codes ")"
+printed_decl table own mark (decl.TupleSort name make parts) =
+    codes "sort " ++ name ++ codes " = " ++ make ++ codes "(" ++ comma_list (map (sort_text table) parts) ++ codes ")"
+printed_decl table own mark (decl.Fun name args result) =
+    codes "fun " ++ name ++ codes "(" ++ comma_list (map (sort_text table) args) ++ codes "): " ++ sort_text table result
+printed_decl table own mark (decl.Rel name args) =
+    codes "rel " ++ name ++ codes "(" ++ comma_list (map (sort_text table) args) ++ codes ")"
+printed_decl table own mark (decl.FunClause args body) =
+    clause_front table own (named_by mark (flat_map term_vars args)) args ++ codes " = " ++ printed_out (file_scope table (named_by mark (flat_map term_vars args))) body
+printed_decl table own mark (decl.RelClause args body) =
+    clause_front table own (named_by mark (flat_map term_vars args)) args ++ codes " <-> " ++ printed_form (file_scope table (named_by mark (flat_map term_vars args))) body
+printed_decl table own mark (decl.Order name args measure) =
+    codes "order " ++ name ++ codes "(" ++ comma_list (map (λ n. parameter_text table (record { name = n.text; sort = n.var.sort })) (named_by mark (numbered 1 args))) ++ codes ") by " ++ printed_term (file_scope table (named_by mark (numbered 1 args))) measure
+printed_decl table own mark (decl.Axiom name form) =
+    codes "axiom " ++ name ++ codes ": " ++ printed_qform (file_scope table []) form
+printed_decl table own mark (decl.Monotone name m) =
+    codes "mono " ++ name ++ codes ": " ++ mono_text table m
 
 -- the name of the last heading after one more declaration
 abbrev pub own_after : List ℕ → Decl → List ℕ
@@ -104,7 +103,7 @@ PrintLines all own [] [] = Unit {0}
 PrintLines all own [] (line ∷ lines) = ⊥
 PrintLines all own (d ∷ ds) [] = ⊥
 PrintLines all own (d ∷ ds) (line ∷ lines) =
-    ((name : ℕ → List ℕ) × NamesLine (IsDeclared all) (line_vars d) name × (line ≡ printed_decl (table_of all) own name d)) × PrintLines all (own_after own d) ds lines
+    ((mark : Option ℕ) × IsMark (IsDeclared all) (line_vars d) mark × (line ≡ printed_decl (table_of all) own mark d)) × PrintLines all (own_after own d) ds lines
 
 -- the text is the one that is printed for the theory
 pub record IsPrintedTheory (t : TheoryTree) (text : List ℕ) : Type 0 where
