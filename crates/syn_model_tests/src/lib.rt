@@ -1,0 +1,6 @@
+//! Tables of theories and specifications that are handed in as trees: declarations and parts that are
+//! taken, and those that are refused.
+#![tactic(auto)]
+
+#[cfg(test)]
+mod theories;
