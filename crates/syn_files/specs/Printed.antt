@@ -6,12 +6,14 @@ use Rattle.syn_term.specs.declared.sorts.Sort.{Sort}
 use Rattle.syn_term.specs.declared.sorts.SymId.{SymId}
 use Rattle.syn_term.specs.declared.sorts.Var.{Var}
 use Rattle.syn_term.specs.Symbols.{SymbolTable, symbol_at}
-use Rattle.syn_term.specs.Terms.{TermTree}
+use Rattle.syn_term.specs.Terms.{TermTree, depth_of, nodes}
 use Rattle.syn_lex.specs.TextLines.{with_feed}
 use Rattle.syn_form.specs.declared.trees.Mono.{Mono}
 use Rattle.syn_form.specs.Printing.{joined, name_of, printed_form, printed_out, printed_qform, printed_term, sort_text}
-use Rattle.syn_form.specs.Scopes.{Named}
-use Rattle.syn_form.specs.Trees.{term_vars}
+use Rattle.syn_form.specs.Scopes.{Named, TextScope}
+use Rattle.syn_form.specs.Quantified.{qform_depth, qform_nodes}
+use Rattle.syn_form.specs.Texts.{expression_limit}
+use Rattle.syn_form.specs.Trees.{FormTree, OutTree, QFormTree, form_depth, form_nodes, out_depth, out_nodes, term_vars}
 use Rattle.syn_model.specs.declared.decl.Decl.{Decl}
 use Rattle.syn_model.specs.declared.decl.Decl.TheVariants as decl
 use Rattle.syn_model.specs.declared.spec_part.SpecPart.{SpecPart}
@@ -21,7 +23,7 @@ use Rattle.syn_model.specs.Specifications.{SpecTree}
 use Rattle.syn_model.specs.Tables.{IsDeclared, table_of}
 use Rattle.syn_model.specs.Theories.{TheoryTree}
 use Rattle.syn_files.specs.SpecLines.{output_names}
-use Rattle.syn_files.specs.TheoryLines.{direction, file_scope, heading_name, numbered}
+use Rattle.syn_files.specs.TheoryLines.{direction, file_scope, heading_name, numbered, parameter_of}
 
 -- the name of the variable with a number: `x` and the number, as `x1`; with a mark, which is the same in the whole line, `x`, the mark,
 -- `_` and the number, as `x1_2`
@@ -61,35 +63,75 @@ symbol_text table f = name_of (symbol_at table f)
 abbrev pub parameter_text : SymbolTable → Param → List ℕ
 parameter_text table p = p.name ++ codes ": " ++ sort_text table p.sort
 
--- `clause f(q1, .., qn)`
-abbrev pub clause_front : SymbolTable → List ℕ → List Named → List TermTree → List ℕ
-clause_front table own names args = codes "clause " ++ own ++ codes "(" ++ comma_list (map (printed_term (file_scope table names)) args) ++ codes ")"
+-- `NAME(.., ..)`, with these texts in the brackets
+abbrev pub in_brackets_text : List ℕ → List (List ℕ) → List ℕ
+in_brackets_text name texts = name ++ codes "(" ++ comma_list texts ++ codes ")"
 
--- `: REL up SYM K`, and the relation that is given, where there is one
-abbrev pub mono_text : SymbolTable → Mono → List ℕ
-mono_text table m =
-    symbol_text table m.rel ++ codes " " ++ direction m.up ++ codes " " ++ symbol_text table m.sym ++ codes " " ++ decimal m.place ++ option_map_or (λ r. codes " " ++ symbol_text table r) m.gives []
+abbrev pub sort_texts : SymbolTable → List Sort → List (List ℕ)
+sort_texts table = map (sort_text table)
+
+-- `sort L = n | c(E, L)`
+abbrev pub list_sort_text : SymbolTable → List ℕ → List ℕ → List ℕ → Sort → List ℕ
+list_sort_text table name nil cons item =
+    codes "sort " ++ name ++ codes " = " ++ nil ++ codes " | " ++ in_brackets_text cons (sort_text table item ∷ name ∷ [])
+
+-- `sort T = c(S1, .., Sk)`
+abbrev pub tuple_sort_text : SymbolTable → List ℕ → List ℕ → List Sort → List ℕ
+tuple_sort_text table name make parts = codes "sort " ++ name ++ codes " = " ++ in_brackets_text make (sort_texts table parts)
+
+-- `fun f(S1, .., Sn): S`
+abbrev pub fun_text : SymbolTable → List ℕ → List Sort → Sort → List ℕ
+fun_text table name args result = codes "fun " ++ in_brackets_text name (sort_texts table args) ++ codes ": " ++ sort_text table result
+
+-- `rel r(S1, .., Sn)`
+abbrev pub rel_text : SymbolTable → List ℕ → List Sort → List ℕ
+rel_text table name args = codes "rel " ++ in_brackets_text name (sort_texts table args)
+
+-- `clause f(q1, .., qn)`
+abbrev pub clause_front : TextScope → List ℕ → List TermTree → List ℕ
+clause_front scope own args = codes "clause " ++ in_brackets_text own (map (printed_term scope) args)
+
+-- the variables of a clause's line, with their names
+abbrev pub clause_scope : SymbolTable → Option ℕ → List TermTree → TextScope
+clause_scope table mark args = file_scope table (named_by mark (flat_map term_vars args))
+
+-- `clause f(q1, .., qn) = OUT`
+abbrev pub fun_clause_text : TextScope → List ℕ → List TermTree → OutTree → List ℕ
+fun_clause_text scope own args body = clause_front scope own args ++ codes " = " ++ printed_out scope body
+
+-- `clause r(q1, .., qn) <-> FORM`
+abbrev pub rel_clause_text : TextScope → List ℕ → List TermTree → FormTree → List ℕ
+rel_clause_text scope own args body = clause_front scope own args ++ codes " <-> " ++ printed_form scope body
+
+-- `order w(x: S, ..) by TERM`
+abbrev pub order_text : SymbolTable → List ℕ → List Named → TermTree → List ℕ
+order_text table name names measure =
+    codes "order " ++ in_brackets_text name (map (λ n. parameter_text table (parameter_of n)) names) ++ codes " by " ++ printed_term (file_scope table names) measure
+
+-- `axiom NAME: FORM`
+abbrev pub axiom_text : SymbolTable → List ℕ → QFormTree → List ℕ
+axiom_text table name form = codes "axiom " ++ name ++ codes ": " ++ printed_qform (file_scope table []) form
+
+-- a space and the relation that is given, where there is one
+abbrev pub given_text : SymbolTable → Option SymId → List ℕ
+given_text table gives = option_map_or (λ r. codes " " ++ symbol_text table r) gives []
+
+-- `mono NAME: REL up SYM K`, and its kin
+abbrev pub mono_text : SymbolTable → List ℕ → Mono → List ℕ
+mono_text table name m =
+    codes "mono " ++ name ++ codes ": " ++ symbol_text table m.rel ++ codes " " ++ direction m.up ++ codes " " ++ symbol_text table m.sym ++ codes " " ++ decimal m.place ++ given_text table m.gives
 
 -- the line of a declaration, where the last heading has this name, and this mark names the variables
 abbrev pub printed_decl : SymbolTable → List ℕ → Option ℕ → Decl → List ℕ
-printed_decl table own mark (decl.ListSort name nil cons item) =
-    codes "sort " ++ name ++ codes " = " ++ nil ++ codes " | " ++ cons ++ codes "(" ++ sort_text table item ++ codes ", " ++ name ++ codes ")"
-printed_decl table own mark (decl.TupleSort name make parts) =
-    codes "sort " ++ name ++ codes " = " ++ make ++ codes "(" ++ comma_list (map (sort_text table) parts) ++ codes ")"
-printed_decl table own mark (decl.Fun name args result) =
-    codes "fun " ++ name ++ codes "(" ++ comma_list (map (sort_text table) args) ++ codes "): " ++ sort_text table result
-printed_decl table own mark (decl.Rel name args) =
-    codes "rel " ++ name ++ codes "(" ++ comma_list (map (sort_text table) args) ++ codes ")"
-printed_decl table own mark (decl.FunClause args body) =
-    clause_front table own (named_by mark (flat_map term_vars args)) args ++ codes " = " ++ printed_out (file_scope table (named_by mark (flat_map term_vars args))) body
-printed_decl table own mark (decl.RelClause args body) =
-    clause_front table own (named_by mark (flat_map term_vars args)) args ++ codes " <-> " ++ printed_form (file_scope table (named_by mark (flat_map term_vars args))) body
-printed_decl table own mark (decl.Order name args measure) =
-    codes "order " ++ name ++ codes "(" ++ comma_list (map (λ n. parameter_text table (record { name = n.text; sort = n.var.sort })) (named_by mark (numbered 1 args))) ++ codes ") by " ++ printed_term (file_scope table (named_by mark (numbered 1 args))) measure
-printed_decl table own mark (decl.Axiom name form) =
-    codes "axiom " ++ name ++ codes ": " ++ printed_qform (file_scope table []) form
-printed_decl table own mark (decl.Monotone name m) =
-    codes "mono " ++ name ++ codes ": " ++ mono_text table m
+printed_decl table own mark (decl.ListSort name nil cons item) = list_sort_text table name nil cons item
+printed_decl table own mark (decl.TupleSort name make parts) = tuple_sort_text table name make parts
+printed_decl table own mark (decl.Fun name args result) = fun_text table name args result
+printed_decl table own mark (decl.Rel name args) = rel_text table name args
+printed_decl table own mark (decl.FunClause args body) = fun_clause_text (clause_scope table mark args) own args body
+printed_decl table own mark (decl.RelClause args body) = rel_clause_text (clause_scope table mark args) own args body
+printed_decl table own mark (decl.Order name args measure) = order_text table name (named_by mark (numbered 1 args)) measure
+printed_decl table own mark (decl.Axiom name form) = axiom_text table name form
+printed_decl table own mark (decl.Monotone name m) = mono_text table name m
 
 -- the name of the last heading after one more declaration
 abbrev pub own_after : List ℕ → Decl → List ℕ
@@ -122,8 +164,22 @@ printed_part s (part.Taken names) = codes "use " ++ comma_list names
 -- `program f(a: S, ..): z: S`
 abbrev pub printed_head : SpecTree → List ℕ
 printed_head s =
-    codes "program " ++ s.head.program ++ codes "(" ++ comma_list (map (parameter_text s.table) s.head.inputs) ++ codes "): " ++ s.output ++ codes ": " ++ sort_text s.table s.head.result
+    codes "program " ++ in_brackets_text s.head.program (map (parameter_text s.table) s.head.inputs) ++ codes ": " ++ s.output ++ codes ": " ++ sort_text s.table s.head.result
 
 -- the text that is printed for the specification
 abbrev pub printed_spec : SpecTree → List ℕ
 printed_spec s = flat_map with_feed ((codes "spec " ++ s.name) ∷ printed_head s ∷ map (printed_part s) s.parts)
+
+-- each expression of the declaration is within the limit of an expression
+abbrev pub IsWithinLimit : Decl → Type 0
+IsWithinLimit (decl.FunClause args body) = (out_nodes body ≤ expression_limit.nodes) × (out_depth body ≤ expression_limit.depth)
+IsWithinLimit (decl.RelClause args body) = (form_nodes body ≤ expression_limit.nodes) × (form_depth body ≤ expression_limit.depth)
+IsWithinLimit (decl.Order name args measure) = (nodes measure ≤ expression_limit.nodes) × (depth_of measure ≤ expression_limit.depth)
+IsWithinLimit (decl.Axiom name form) = (qform_nodes form ≤ expression_limit.nodes) × (qform_depth form ≤ expression_limit.depth)
+IsWithinLimit _ = Unit {0}
+
+-- the same of a specification's part
+abbrev pub IsPartWithinLimit : SpecPart → Type 0
+IsPartWithinLimit (part.Requires form) = (form_nodes form ≤ expression_limit.nodes) × (form_depth form ≤ expression_limit.depth)
+IsPartWithinLimit (part.Ensures form) = (qform_nodes form ≤ expression_limit.nodes) × (qform_depth form ≤ expression_limit.depth)
+IsPartWithinLimit _ = Unit {0}
