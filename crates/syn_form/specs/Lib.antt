@@ -9,6 +9,7 @@ pub mod Simplification
 pub mod Truth
 pub mod SimplificationLaws
 pub mod Scopes
+pub mod Writing
 pub mod Printing
 pub mod Grammar
 pub mod Lists
