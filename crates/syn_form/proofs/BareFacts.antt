@@ -28,7 +28,7 @@ use Rattle.syn_form.specs.declared.trees.QForm.TheOpen.{QForm-F}
 use Rattle.syn_form.specs.declared.trees.QForm.TheVariants as qform
 use Rattle.syn_form.specs.declared.trees.QForm.TheViews as qview
 use Rattle.syn_form.specs.Plain.{HasOneSortEach, IsAtom, IsFormed, IsFormedOut, IsPlainForm, IsPlainOut, IsSorted, PlainFormNode, PlainOutNode, SortedNode, given_sort}
-use Rattle.syn_form.specs.PlainQuantified.{BindsOnce, IsFormedQ, IsPlainQForm, IsUnbound, MayBind, PlainQFormNode, UnboundBelow, binders_of, binders_step}
+use Rattle.syn_form.specs.PlainQuantified.{BindsOnce, IsFormedQ, IsPlainQForm, IsUnbound, MayBind, binders_of, binders_step}
 use Rattle.syn_form.specs.Quantified.{bare_qform, bare_qform_step, free_vars, free_vars_step, qform_vars, without}
 use Rattle.syn_form.specs.Simplification.{Junction, conjunction, disjunction, chain}
 use Rattle.syn_form.specs.Trees.{FormTree, OutTree, QFormTree, all_of, bare_form, bare_out, form_vars, out_vars, term_vars}
@@ -281,7 +281,7 @@ module _ (table : SymbolTable) where
   )
 
   pub formed_qform_bare : (f : QFormTree) → IsFormedQ table (bare_qform f) ↔ IsFormedQ table f
-  formed_qform_bare = every_bare_qform (PlainQFormNode table) record {
+  formed_qform_bare = every_bare_qform _ record {
     at_true = tt;
     at_false = tt;
     at_atom = atom_both;
@@ -338,7 +338,7 @@ unbound_both : (b : Binder) (a : QFormTree) → IsUnbound b.name (bare_qform a) 
 unbound_both b a = both_along (All (λ (c : Binder). c.name ≢ b.name)) (binders_of (bare_qform a)) (binders_of a) (binders_bare a)
 
 pub once_bare : (f : QFormTree) → BindsOnce (bare_qform f) ↔ BindsOnce f
-once_bare = every_bare_qform UnboundBelow record {
+once_bare = every_bare_qform _ record {
   at_true = tt;
   at_false = tt;
   at_atom = λ r args. both_kept;

@@ -25,7 +25,7 @@ binders_step _ = []
 abbrev pub binders_of : QFormTree → List Binder
 binders_of = fold-QForm (List Binder) binders_step
 
-abbrev pub PlainQFormNode : SymbolTable → QForm-F QForm → Type 0
+abbrev PlainQFormNode : SymbolTable → QForm-F QForm → Type 0
 PlainQFormNode table (QForm-F.Atom r args) = IsAtom table r args × All (IsSorted table) args
 PlainQFormNode table (QForm-F.Equal s t) = IsSorted table s × IsSorted table t × (sort_of table s ≡ sort_of table t)
 PlainQFormNode table (QForm-F.And all) = 2 ≤ length all
@@ -50,7 +50,7 @@ pub record MayBind (table : SymbolTable) (b : Binder) : Type 0 where
 abbrev pub IsUnbound : List ℕ → QFormTree → Type 0
 IsUnbound name f = All (λ b. b.name ≢ name) (binders_of f)
 
-abbrev pub UnboundBelow : QForm-F QForm → Type 0
+abbrev UnboundBelow : QForm-F QForm → Type 0
 UnboundBelow (QForm-F.All b a) = IsUnbound b.name a
 UnboundBelow (QForm-F.Exists b a) = IsUnbound b.name a
 UnboundBelow _ = Unit {0}
