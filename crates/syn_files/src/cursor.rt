@@ -1,6 +1,5 @@
 // The words of a line, read from the left. What is read says what stood at the front, and what is left.
-ghost use Rattle.std.specs.Prelude.{◌≡◌, [], None, Some, IfOk, MatchOption, false, if◌then◌else◌, length};
-ghost use Rattle.std.specs.Option.{option_map};
+ghost use Rattle.std.specs.Prelude.{◌≡◌, ◌↔◌, [], None, Some, IfOk, IsTrue, MatchOption, false, if◌then◌else◌};
 ghost use Rattle.std.specs.Str.{bytes_eq};
 ghost use Rattle.syn_term.specs.Tokens.{IsToken};
 ghost use Rattle.syn_lex.specs.Lexing.{word};
@@ -52,7 +51,7 @@ fn is_text(text: &str, other: &str) -> bool
 impl<'a> Cursor<'a> {
     /// Whether all words are read.
     pub(crate) fn is_empty(&self) -> bool
-        ensures { result ≡ true ↔ ((self.now).left ≡ []) }
+        ensures { IsTrue result ↔ ((self.now).left ≡ []) }
     {
         self.left.is_empty()
     }

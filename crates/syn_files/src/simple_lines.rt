@@ -1,7 +1,5 @@
 // Lines in which no expression stands: sorts, functions and relations.
-ghost use Rattle.std.specs.Prelude.{◌≡◌, IfOk, None, Some, if◌then◌else◌};
-ghost use Rattle.std.specs.Option.{option_map};
-ghost use Rattle.syn_files.specs.inner.Firsts as firsts;
+ghost use Rattle.std.specs.Prelude.{◌≡◌, IfOk};
 ghost use Rattle.syn_files.specs.inner.SimpleLines as lines;
 
 use crate::cursor::Cursor;
@@ -15,9 +13,9 @@ fn list_line(
     syms: &Symbols,
     name: &str,
     nil: &str,
-    mut cursor: Cursor,
+    cursor: &mut Cursor<'_>,
 ) -> Result<Option<Decl>, NoMemory>
-    ensures { IfOk result (λ o. o ≡ lines.list_line syms.now name.now nil.now cursor.left) }
+    ensures { IfOk result (λ o. o ≡ lines.list_line syms.now name.now nil.now cursor.old.left) }
 {
     let Some(cons) = cursor.name() else {
         return Ok(None);
@@ -54,9 +52,9 @@ fn tuple_line(
     syms: &Symbols,
     name: &str,
     make: &str,
-    mut cursor: Cursor,
+    cursor: &mut Cursor<'_>,
 ) -> Result<Option<Decl>, NoMemory>
-    ensures { IfOk result (λ o. o ≡ lines.tuple_line syms.now name.now make.now cursor.left) }
+    ensures { IfOk result (λ o. o ≡ lines.tuple_line syms.now name.now make.now cursor.old.left) }
 {
     let Some(parts) = cursor.sorts(alloc, syms)? else {
         return Ok(None);
@@ -75,9 +73,9 @@ fn tuple_line(
 pub(crate) fn sort_line(
     alloc: Global,
     syms: &Symbols,
-    mut cursor: Cursor,
+    cursor: &mut Cursor<'_>,
 ) -> Result<Option<Decl>, NoMemory>
-    ensures { IfOk result (λ o. o ≡ lines.sort_line syms.now cursor.left) }
+    ensures { IfOk result (λ o. o ≡ lines.sort_line syms.now cursor.old.left) }
 {
     let Some(name) = cursor.name() else {
         return Ok(None);
@@ -99,9 +97,9 @@ pub(crate) fn sort_line(
 pub(crate) fn fun_line(
     alloc: Global,
     syms: &Symbols,
-    mut cursor: Cursor,
+    cursor: &mut Cursor<'_>,
 ) -> Result<Option<Decl>, NoMemory>
-    ensures { IfOk result (λ o. o ≡ lines.fun_line syms.now cursor.left) }
+    ensures { IfOk result (λ o. o ≡ lines.fun_line syms.now cursor.old.left) }
 {
     let Some(name) = cursor.name() else {
         return Ok(None);
@@ -129,9 +127,9 @@ pub(crate) fn fun_line(
 pub(crate) fn rel_line(
     alloc: Global,
     syms: &Symbols,
-    mut cursor: Cursor,
+    cursor: &mut Cursor<'_>,
 ) -> Result<Option<Decl>, NoMemory>
-    ensures { IfOk result (λ o. o ≡ lines.rel_line syms.now cursor.left) }
+    ensures { IfOk result (λ o. o ≡ lines.rel_line syms.now cursor.old.left) }
 {
     let Some(name) = cursor.name() else {
         return Ok(None);
