@@ -21,7 +21,6 @@ pub mod ProperTrees
 pub mod Owning
 pub mod Fitting
 pub mod FormFitting
-pub mod BareVars
 pub mod Taking
 pub mod Stands
 pub mod Readers

@@ -3,32 +3,24 @@ use Rattle.std.proofs.Common.{◌≡◌, ℕ, Bool, true, false, Option, None, S
 use Rattle.std.specs.Option.{option_and_then, option_map}
 use Rattle.syn_term.specs.declared.sorts.Sort.{Sort}
 use Rattle.syn_term.specs.Symbols.{SymbolTable}
-use Rattle.syn_term.specs.Terms.{bare}
 use Rattle.syn_form.specs.declared.syntax.FormSyntax.{FormSyntax}
 use Rattle.syn_form.specs.declared.trees.Out.TheViews as view
 use Rattle.syn_form.specs.Elaboration.{elaborate_form, elaborate_plain, sorted_choice}
-use Rattle.syn_form.specs.Plain.{given_sort, given_sort_step}
+use Rattle.syn_form.specs.Plain.{given_sort}
 use Rattle.syn_form.specs.Quantified.{unquantified}
 use Rattle.syn_form.specs.Scopes.{TextScope}
 use Rattle.syn_form.specs.Sorts.{are_of_one_sort}
 use Rattle.syn_form.specs.Trees.{FormTree, OutTree, QFormTree, bare_form, bare_out}
-use Rattle.syn_form.proofs.Equations.{fold-Give, fold-If, bare_out-Give, bare_out-If}
-use Rattle.syn_form.proofs.Induction.{by_outs}
+use Rattle.syn_form.proofs.Equations.{bare_out-If}
 use Rattle.syn_expr.specs.inner.Elaborating.{bare_reading}
 use Rattle.syn_expr.proofs.FormMaking.{both}
-use Rattle.syn_form.proofs.Sorting.{sort_bare}
+use Rattle.syn_form.proofs.BareVars.{given_bare}
 use Rattle.syn_expr.proofs.Unquantifying.{unquantified_bare}
 
 -- the formula that was read is made one without quantifiers
 pub plain_made : (scope : TextScope) (s : FormSyntax) (o : Option (QFormTree × ℕ)) (f : QFormTree) (n : ℕ) (r : Option FormTree) → option_map bare_reading o ≡ elaborate_form s scope 1 → o ≡ Some (both f n) → r ≡ unquantified f → option_map bare_form r ≡ elaborate_plain scope s
 plain_made scope s o f n r made is e =
     ap (option_map bare_form) e ∙ (sym (unquantified_bare f) ∙ ap (λ (z : Option (QFormTree × ℕ)). option_and_then (λ x. unquantified x.0) z) (sym (ap (option_map bare_reading) is) ∙ made))
-
--- the sort that an output gives doesn't look at places
-pub given_bare : (table : SymbolTable) (o : OutTree) → given_sort table (bare_out o) ≡ given_sort table o
-given_bare table = by_outs (λ o. given_sort table (bare_out o) ≡ given_sort table o)
-    (λ t. ap (given_sort table) (bare_out-Give t) ∙ (fold-Give (given_sort_step table) (bare t) ∙ (sort_bare table t ∙ sym (fold-Give (given_sort_step table) t))))
-    (λ f u v h k. ap (given_sort table) (bare_out-If f u v) ∙ (fold-If (given_sort_step table) (bare_form f) (bare_out u) (bare_out v) ∙ (h ∙ sym (fold-If (given_sort_step table) f u v))))
 
 module _ (table : SymbolTable) (f : FormTree) (u v : OutTree) (a b : Option Sort) (test : Bool) (is : test ≡ are_of_one_sort a b) (first : a ≡ given_sort table u) (second : b ≡ given_sort table v) where
   choice_is : (t : Bool) → test ≡ t → sorted_choice table (bare_form f) (bare_out u) (bare_out v) ≡ (if t then Some (view.If (bare_form f) (bare_out u) (bare_out v)) else None)

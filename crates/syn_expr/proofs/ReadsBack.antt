@@ -28,7 +28,7 @@ use Rattle.syn_expr.proofs.AsQForm.{as_qform_back, as_qform_binders, as_qform_ca
 use Rattle.syn_expr.proofs.BareCounts.{depth_bare, form_depth_bare, form_nodes_bare, nodes_bare, out_depth_bare, out_nodes_bare, qform_depth_bare, qform_nodes_bare}
 use Rattle.syn_expr.proofs.BackForms.{qform_back}
 use Rattle.syn_expr.proofs.BackTerms.{term_back}
-use Rattle.syn_expr.proofs.BareVars.{form_vars_bare, out_vars_bare, qform_vars_bare, term_vars_bare}
+use Rattle.syn_form.proofs.BareVars.{form_vars_bare, out_vars_bare, qform_vars_bare, term_vars_bare}
 use Rattle.syn_expr.proofs.FormSyntaxes as syntaxes
 use Rattle.syn_expr.proofs.OutMaking.{choice_made}
 use Rattle.syn_expr.proofs.FormPuts.{qform_puts}

@@ -15,7 +15,7 @@ use Rattle.syn_form.specs.Trees.{FormTree, QFormTree, OutTree, bare_form, bare_o
 use Rattle.syn_expr.specs.inner.Accepting.{IfSorted, Taken, TakesForm, TakesOut, TakesQForm, TakesTerm, limit_of}
 use Rattle.syn_expr.specs.inner.Elaborating.{bare_reading}
 use Rattle.syn_expr.specs.Limits.{IsPast, term_cost, term_levels, form_cost, form_levels, out_cost, out_levels}
-use Rattle.syn_expr.proofs.BareVars.{term_vars_bare, form_vars_bare, qform_vars_bare, out_vars_bare}
+use Rattle.syn_form.proofs.BareVars.{term_vars_bare, form_vars_bare, qform_vars_bare, out_vars_bare}
 use Rattle.syn_expr.proofs.FormCounts.{form_nodes_are, form_depth_is}
 use Rattle.syn_expr.proofs.FormMaking.{both}
 use Rattle.syn_expr.proofs.PlainCounts.{plain_nodes_are, plain_depth_is, out_nodes_are, out_depth_is}

@@ -1,6 +1,6 @@
 -- For public contracts: which line declares what in a theory text. One case for each kind of declaration, beside the table of the
 -- format in docs/FORMATS.md.
-use Rattle.std.specs.Prelude.{◌≡◌, ◌≢◌, ℕ, ◌+◌, Bool, true, false, List, [], ◌∷◌, ◌++◌, Option, None, Some, All, codes, map}
+use Rattle.std.specs.Prelude.{◌≡◌, ◌≢◌, ℕ, ◌+◌, ◌≤◌, Bool, true, false, List, [], ◌∷◌, ◌++◌, Option, None, Some, All, codes, length, map}
 use Rattle.std.specs.List.{flat_map}
 use Rattle.syn_term.specs.declared.sorts.Sort.{Sort}
 use Rattle.syn_term.specs.declared.sorts.SymId.{SymId}
@@ -36,14 +36,11 @@ pub record AreLineNames (ds : List Decl) (names : List Named) : Type 0 where
   pub new : All (λ n. IsNewName ds n.text) names
   pub distinct : AreDistinct (map (λ n. n.text) names)
 
--- the symbol has the name
-abbrev pub NamedBy : SymbolTable → SymId → List ℕ → Type 0
-NamedBy table f x = IsName x × (symbol_named table x ≡ Some f)
-
 -- `clause f(q1, .., qn)`: what is written before `=` or `<->` is `f` with the arguments, whose variables stand in it by new names, each
 -- once, in their order
 pub record WritesClause (ds : List Decl) (f : List ℕ) (args : List TermTree) (names : List Named) (words : List Word) : Type 0 where
   pub patterns : List TermSyntax
+  pub some : 1 ≤ length patterns
   pub is : words ≡ name_word (codes "clause") ∷ map spelling (words_of_term (term_syntax.Applied (head.Name f) patterns))
   pub names_new : AreLineNames ds names
   pub vars : map (λ n. n.var) names ≡ flat_map term_vars args
@@ -75,14 +72,14 @@ direction false = codes "down"
 -- the relation between the results, where one is written
 abbrev pub WritesGiven : SymbolTable → Option SymId → List Word → Type 0
 WritesGiven table None words = words ≡ []
-WritesGiven table (Some r) words = (x : List ℕ) × NamedBy table r x × (words ≡ name_word x ∷ [])
+WritesGiven table (Some r) words = (x : List ℕ) × (symbol_named table x ≡ Some r) × (words ≡ name_word x ∷ [])
 
 -- `mono NAME: REL up SYM K`, and behind it the relation that is given
 pub record WritesMono (table : SymbolTable) (name : List ℕ) (m : Mono) (words : List Word) : Type 0 where
   pub rel : List ℕ
   pub sym : List ℕ
   pub given : List Word
-  pub rel_is : NamedBy table m.rel rel
+  pub rel_is : symbol_named table rel ≡ Some m.rel
   pub sym_is : symbol_named table sym ≡ Some m.sym
   pub given_is : WritesGiven table m.gives given
   pub is : words ≡ name_word (codes "mono") ∷ name_word name ∷ sign_word (codes ":") ∷ name_word rel ∷ name_word (direction m.up) ∷ name_word sym ∷ number_word m.place ∷ given

@@ -1,9 +1,7 @@
 -- For public contracts: the words of lines: keywords, signs, sorts, and lists with commas between.
 use Rattle.std.specs.Prelude.{◌≡◌, ℕ, List, [], ◌∷◌, ◌++◌, Some, codes, decimal}
 use Rattle.syn_term.specs.declared.sorts.Sort.{Sort}
-use Rattle.syn_term.specs.declared.sorts.Sort.TheVariants as sort
 use Rattle.syn_term.specs.declared.tokens.TokenKind.TheVariants as kind
-use Rattle.syn_term.specs.Names.{IsName}
 use Rattle.syn_term.specs.Symbols.{SymbolTable}
 use Rattle.syn_term.specs.DeclaredSorts.{sort_named}
 use Rattle.syn_term.specs.Tokens.{Word}
@@ -13,10 +11,9 @@ use Rattle.syn_model.specs.Heads.{Param}
 abbrev pub number_word : ℕ → Word
 number_word n = record { kind = kind.Number; bytes = decimal n }
 
--- the word writes the sort: `nat`, or the name of a declared one
+-- the word writes the sort: it is `nat`, or the name of a declared one
 abbrev pub WritesSort : SymbolTable → Sort → Word → Type 0
-WritesSort table sort.Nat w = w ≡ name_word (codes "nat")
-WritesSort table s w = (x : List ℕ) × IsName x × (sort_named table x ≡ Some s) × (w ≡ name_word x)
+WritesSort table s w = (x : List ℕ) × (sort_named table x ≡ Some s) × (w ≡ name_word x)
 
 -- one word for each sort
 abbrev pub WriteSorts : SymbolTable → List Sort → List Word → Type 0

@@ -1,3 +1,6 @@
 //! Theory and specification files: what a text declares line by line, and the text that is printed for
 //! a theory or a specification. What is printed reads back to an equal one.
 #![tactic(auto)]
+
+mod cursor;
+mod simple_lines;

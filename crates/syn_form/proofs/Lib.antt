@@ -44,3 +44,5 @@ pub mod ReplacingPlaces
 pub mod ReplacedTerms
 pub mod PlacesKept
 pub mod ValuesKept
+pub mod BareVars
+pub mod BareFacts

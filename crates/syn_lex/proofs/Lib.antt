@@ -5,5 +5,6 @@ pub mod Window
 pub mod TokenSteps
 pub mod OneAnswer
 pub mod Spelling
+pub mod Led
 pub mod Comments
 pub mod ByGrammar

@@ -17,3 +17,5 @@ pub mod PatternLaws
 pub mod TurnLaws
 pub mod Keeping
 pub mod Asking
+pub mod BareClauses
+pub mod BareDeclaring

@@ -2,6 +2,7 @@ pub mod Tables
 pub mod Headings
 pub mod Clauses
 pub mod Theories
+pub mod BareTrees
 pub mod Declaring
 pub mod Heads
 pub mod Specifications

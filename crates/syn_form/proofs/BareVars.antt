@@ -1,21 +1,24 @@
--- A tree without its places has the same variables.
+-- A tree without its places has the same variables, and an output gives a term of the same sort.
 use Rattle.std.proofs.Common.{◌≡◌, List, [], ◌∷◌, ◌++◌, All, map, refl, sym, ◌∙◌, ap}
 use Rattle.std.specs.List.{flat_map}
 use Rattle.std.proofs.lemmas.List.{map-append}
 use Rattle.std.proofs.lemmas.List.Elements.{All-head, All-tail}
 use Rattle.syn_term.specs.declared.sorts.Var.{Var}
+use Rattle.syn_term.specs.Symbols.{SymbolTable}
 use Rattle.syn_term.specs.Terms.{TermTree, bare}
 use Rattle.syn_term.proofs.Trees.{fold-bare}
 use Rattle.syn_form.specs.Trees.{FormTree, OutTree, QFormTree, all_of, bare_form, bare_out, form_terms, form_vars, out_terms, out_vars, term_vars, term_vars_step}
+use Rattle.syn_form.specs.Plain.{given_sort, given_sort_step}
 use Rattle.syn_form.specs.Quantified.{bare_qform, bare_qform_step, qform_vars, qform_vars_step}
-use Rattle.syn_form.proofs.Equations.{bare_form-True, bare_form-False, bare_form-Atom, bare_form-Equal, bare_form-Not, bare_form-And, bare_form-Or, bare_form-Implies, bare_out-Give, bare_out-If, form_terms-True, form_terms-False, form_terms-Atom, form_terms-Equal, form_terms-Not, form_terms-And, form_terms-Or, form_terms-Implies, out_terms-Give, out_terms-If}
+use Rattle.syn_form.proofs.Equations.{bare_form-True, bare_form-False, bare_form-Atom, bare_form-Equal, bare_form-Not, bare_form-And, bare_form-Or, bare_form-Implies, bare_out-Give, bare_out-If, form_terms-True, form_terms-False, form_terms-Atom, form_terms-Equal, form_terms-Not, form_terms-And, form_terms-Or, form_terms-Implies, out_terms-Give, out_terms-If, fold-Give, fold-If}
 use Rattle.syn_form.proofs.Induction.{by_forms, by_outs}
+use Rattle.syn_form.proofs.Sorting.{sort_bare}
 use Rattle.syn_form.proofs.QForms.{qfold-True, qfold-False, qfold-Atom, qfold-Equal, qfold-Not, qfold-And, qfold-Or, qfold-Implies, qfold-All, qfold-Exists, by_qform_cases}
 
 pub term_vars_bare : (t : TermTree) → term_vars (bare t) ≡ term_vars t
 term_vars_bare = fold-bare term_vars_step (λ p v. refl) (λ p f xs. refl)
 
-vars_bare : (ts : List TermTree) → flat_map term_vars (map bare ts) ≡ flat_map term_vars ts
+pub vars_bare : (ts : List TermTree) → flat_map term_vars (map bare ts) ≡ flat_map term_vars ts
 vars_bare [] = refl
 vars_bare (t ∷ ts) = ap (λ (z : List Var). z ++ flat_map term_vars (map bare ts)) (term_vars_bare t) ∙ ap (λ (z : List Var). term_vars t ++ z) (vars_bare ts)
 
@@ -82,3 +85,9 @@ qform_vars_bare = by_qform_cases SameVars record {
   at_all = λ b a h. ap qform_vars (qfold-All bare_qform_step b a) ∙ (qfold-All qform_vars_step b (bare_qform a) ∙ (ap (λ (z : List Var). b.var ∷ z) h ∙ sym (qfold-All qform_vars_step b a)));
   at_exists = λ b a h. ap qform_vars (qfold-Exists bare_qform_step b a) ∙ (qfold-Exists qform_vars_step b (bare_qform a) ∙ (ap (λ (z : List Var). b.var ∷ z) h ∙ sym (qfold-Exists qform_vars_step b a)));
 }
+
+-- the sort that an output gives doesn't look at places
+pub given_bare : (table : SymbolTable) (o : OutTree) → given_sort table (bare_out o) ≡ given_sort table o
+given_bare table = by_outs (λ o. given_sort table (bare_out o) ≡ given_sort table o)
+    (λ t. ap (given_sort table) (bare_out-Give t) ∙ (fold-Give (given_sort_step table) (bare t) ∙ (sort_bare table t ∙ sym (fold-Give (given_sort_step table) t))))
+    (λ f u v h k. ap (given_sort table) (bare_out-If f u v) ∙ (fold-If (given_sort_step table) (bare_form f) (bare_out u) (bare_out v) ∙ (h ∙ sym (fold-If (given_sort_step table) f u v))))

@@ -1,0 +1,40 @@
+-- For private contracts: what the words behind the first of a line declare, read from the left, where no expression stands in it.
+use Rattle.std.specs.Prelude.{ℕ, List, [], ◌∷◌, Option, None, Some, codes, if◌then◌else◌}
+use Rattle.std.specs.Str.{bytes_eq}
+use Rattle.syn_term.specs.Symbols.{SymbolTable}
+use Rattle.syn_term.specs.Tokens.{Word}
+use Rattle.syn_model.specs.declared.decl.Decl.{Decl}
+use Rattle.syn_model.specs.declared.decl.Decl.TheVariants as decl
+use Rattle.syn_files.specs.inner.Firsts.{◌>>=◌, ended, name_first, sign_first, sort_first, sorts_first}
+
+-- NAME, and nothing behind it
+abbrev pub title_line : List Word → Option (List ℕ)
+title_line ws = name_first ws >>= λ n. ended n.left n.value
+
+-- c(E, L), behind `sort L = n |`
+abbrev pub list_line : SymbolTable → List ℕ → List ℕ → List Word → Option Decl
+list_line table name nil ws =
+    name_first ws >>= λ c. sign_first (codes "(") c.left >>= λ o. sort_first table o >>= λ e. sign_first (codes ",") e.left >>= λ m.
+    name_first m >>= λ l. sign_first (codes ")") l.left >>= λ d. if bytes_eq l.value name then ended d (decl.ListSort name nil c.value e.value) else None
+
+-- (S1, .., Sk), behind `sort T = c`
+abbrev pub tuple_line : SymbolTable → List ℕ → List ℕ → List Word → Option Decl
+tuple_line table name make ws = sorts_first table ws >>= λ s. ended s.left (decl.TupleSort name make s.value)
+
+abbrev pub list_or_tuple : SymbolTable → List ℕ → List ℕ → List Word → Option (List Word) → Option Decl
+list_or_tuple table name first ws None = tuple_line table name first ws
+list_or_tuple table name first ws (Some behind) = list_line table name first behind
+
+-- L = n | c(E, L), or T = c(S1, .., Sk)
+abbrev pub sort_line : SymbolTable → List Word → Option Decl
+sort_line table ws =
+    name_first ws >>= λ n. sign_first (codes "=") n.left >>= λ e. name_first e >>= λ f. list_or_tuple table n.value f.value f.left (sign_first (codes "|") f.left)
+
+-- f(S1, .., Sn): S
+abbrev pub fun_line : SymbolTable → List Word → Option Decl
+fun_line table ws =
+    name_first ws >>= λ n. sorts_first table n.left >>= λ a. sign_first (codes ":") a.left >>= λ c. sort_first table c >>= λ r. ended r.left (decl.Fun n.value a.value r.value)
+
+-- r(S1, .., Sn)
+abbrev pub rel_line : SymbolTable → List Word → Option Decl
+rel_line table ws = name_first ws >>= λ n. sorts_first table n.left >>= λ a. ended a.left (decl.Rel n.value a.value)
