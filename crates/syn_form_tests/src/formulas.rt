@@ -7,12 +7,17 @@ ghost use Rattle.syn_term.specs.Bank.{Belongs};
 use sqlite_items::Items;
 use std::alloc::Global;
 use std::test::Fail;
-use syn_form::{Form, Out, Part, polarity};
-use syn_term::{Bank, NoMemory, Pos, Shared, Sort, SymId, Term, Var};
+use syn_form::{Binder, Form, Out, Part, QForm, polarity};
+use syn_term::{Bank, NoMemory, Pos, Shared, Sort, SymId, Term, Text, Var};
 
 /// Positions of `le(a, b) -> a = b`. Behind each stands what is there, a formula, a term or nothing, and the
 /// sign: `+`, `-`, or `.` for none.
 const POSITIONS: &str = "f+ 0n. 1f- 10n. 11t. 111n. 13n. 2f+ 22t. 3n.";
+
+const X: Var = Var {
+    number: 1,
+    sort: Sort::Nat,
+};
 
 fn variable(alloc: Global, bank: &mut Bank, number: u32) -> Result<Term, NoMemory>
     ensures { IfOk result (Belongs bank.new) }
@@ -225,5 +230,34 @@ fn compares_outputs(rt: HostRuntime) -> Result<(), Fail> {
     let mut bank = Bank::new(rt.alloc());
     let t = variable(rt.alloc(), &mut bank, 1)?;
     assert!(rt; given_again(&bank, &t)?);
+    Ok(())
+}
+
+/// `all x: nat. true`.
+fn all_true(alloc: Global) -> Result<QForm, NoMemory> {
+    let a = Shared::new(alloc, QForm::True)?;
+    match Text::from_str(alloc, "x") {
+        Ok(name) => Ok(QForm::All(Binder { var: X, name }, a)),
+        Err(_) => {
+            drop(a);
+            Err(NoMemory)
+        }
+    }
+}
+
+fn is_all_true(f: &QForm) -> bool {
+    match f {
+        QForm::All(b, a) => {
+            b.var == X && b.name.as_str() == "x" && matches!(a.get(), QForm::True)
+        }
+        _ => false,
+    }
+}
+
+#[test]
+fn keeps_quantified_formulas(rt: HostRuntime) -> Result<(), Fail> {
+    let f = all_true(rt.alloc())?;
+    let again = f.again()?;
+    assert!(rt; is_all_true(&f) && is_all_true(&again));
     Ok(())
 }

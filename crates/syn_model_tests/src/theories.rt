@@ -329,6 +329,16 @@ fn declares_numbers(rt: HostRuntime) -> Result<(), Fail> {
 }
 
 #[test]
+fn goes_on_in_a_copy(rt: HostRuntime) -> Result<(), Fail> {
+    let mut theory = begun(rt.alloc())?;
+    declares(&rt, rt.alloc(), &mut theory, BASICS)?;
+    let mut copy = theory.copy()?;
+    drop(theory);
+    assert!(rt; copy.name() == "basics" && copy.is_whole());
+    declares(&rt, rt.alloc(), &mut copy, OTHERS)
+}
+
+#[test]
 fn takes_clauses_in_order(rt: HostRuntime) -> Result<(), Fail> {
     let mut theory = begun(rt.alloc())?;
     declares(&rt, rt.alloc(), &mut theory, CLAUSES)?;
