@@ -25,6 +25,7 @@ pub mod BareVars
 pub mod Taking
 pub mod Stands
 pub mod Readers
+pub mod TextReads
 pub mod TreeReadings
 pub mod Puts
 pub mod TermPuts

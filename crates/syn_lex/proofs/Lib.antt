@@ -7,3 +7,5 @@ pub mod OneAnswer
 pub mod Spelling
 pub mod Comments
 pub mod ByGrammar
+pub mod NotSpelled
+mod LineWords
