@@ -1,2 +1,4 @@
 pub mod FirstLaws
 pub mod SimpleLaws
+pub mod Keywords
+pub mod StepLaws
