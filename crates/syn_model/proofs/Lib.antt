@@ -17,3 +17,12 @@ pub mod PatternLaws
 pub mod TurnLaws
 pub mod Keeping
 pub mod Asking
+pub mod Distinct
+pub mod HeadStanding
+pub mod UsingQuantified
+pub mod HeadTableLaws
+pub mod Hashes
+pub mod NamedSymbols
+pub mod Written
+pub mod SpecLaws
+pub mod SpecAsking
