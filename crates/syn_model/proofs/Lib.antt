@@ -26,3 +26,5 @@ pub mod NamedSymbols
 pub mod Written
 pub mod SpecLaws
 pub mod SpecAsking
+pub mod IndexLaws
+pub mod RowKeys
