@@ -8,6 +8,8 @@ mod printed;
 #[cfg(test)]
 mod read;
 #[cfg(test)]
+mod specifications;
+#[cfg(test)]
 mod tables;
 #[cfg(test)]
 mod theories;
