@@ -108,6 +108,8 @@ fn begun(
             parts: Items::new(alloc),
         }),
         Err(error) => {
+            drop(name);
+            drop(output);
             drop(head);
             Err(error)
         }
