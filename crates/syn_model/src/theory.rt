@@ -119,14 +119,21 @@ impl Theory {
         let name = self.name.again()?;
         let syms = self.syms.copy(self.alloc)?;
         let index = indexed(self.alloc, self.decls.as_slice())?;
-        let decls = decls_again(self.alloc, self.decls.as_slice())?;
-        Ok(Theory {
-            alloc: self.alloc,
-            name,
-            syms,
-            index,
-            decls,
-        })
+        match decls_again(self.alloc, self.decls.as_slice()) {
+            Ok(decls) => Ok(Theory {
+                alloc: self.alloc,
+                name,
+                syms,
+                index,
+                decls,
+            }),
+            Err(error) => {
+                drop(name);
+                drop(syms);
+                drop(index);
+                Err(error)
+            }
+        }
     }
 
     /// The name of the theory, which is a name.

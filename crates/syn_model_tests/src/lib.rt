@@ -3,4 +3,6 @@
 #![tactic(auto)]
 
 #[cfg(test)]
+mod specifications;
+#[cfg(test)]
 mod theories;

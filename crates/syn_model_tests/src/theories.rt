@@ -12,7 +12,7 @@ use syn_term::{Bank, NoMemory, Shared, Sort, SymId, Term, Text, Var, decimal_num
 
 const NAT: Sort = Sort::Nat;
 
-fn failed(error: ExprError) -> Fail {
+pub(crate) fn failed(error: ExprError) -> Fail {
     match error {
         ExprError::Refused => Fail::new("no text"),
         ExprError::NoMemory => Fail::new("no memory"),
@@ -247,7 +247,7 @@ fn is_taken(alloc: Global, theory: &mut Theory, line: &str) -> Result<bool, Fail
     }
 }
 
-fn begun(alloc: Global) -> Result<Theory, Fail> {
+pub(crate) fn begun(alloc: Global) -> Result<Theory, Fail> {
     match Theory::new(alloc, "basics") {
         Ok(theory) => Ok(theory),
         Err(_) => Err(Fail::new("no theory")),
@@ -255,7 +255,12 @@ fn begun(alloc: Global) -> Result<Theory, Fail> {
 }
 
 /// Declares the lines of a table in order. Each answer is the one behind the arrow.
-fn declares<R: Abort>(rt: &R, alloc: Global, theory: &mut Theory, table: &str) -> Result<(), Fail> {
+pub(crate) fn declares<R: Abort>(
+    rt: &R,
+    alloc: Global,
+    theory: &mut Theory,
+    table: &str,
+) -> Result<(), Fail> {
     for line in table.lines() {
         let (decl, want) = cut(line, " => ");
         let got = is_taken(alloc, theory, decl)?;
@@ -265,7 +270,7 @@ fn declares<R: Abort>(rt: &R, alloc: Global, theory: &mut Theory, table: &str) -
 }
 
 /// Numbers with predecessor, doubling and their order.
-const BASICS: &str = "\
+pub(crate) const BASICS: &str = "\
 fun p 1 => yes
 clause 0: 0 => yes
 clause s(x): x => yes
