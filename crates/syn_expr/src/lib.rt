@@ -23,9 +23,11 @@ mod text;
 mod unquantified;
 
 pub use error::ExprError;
+pub use names::{sort_name, symbol_name};
 pub use print_forms::print_form;
 pub use print_outs::print_out;
 pub use print_qforms::print_qform;
 pub use print_terms::print_term;
 pub use read::{read_body, read_form, read_out, read_qform, read_term};
 pub use scope::Scope;
+pub use text::{put, put_number, separator};

@@ -3,4 +3,7 @@
 #![tactic(auto)]
 
 mod cursor;
+mod naming;
+mod print_decls;
+mod print_theory;
 mod simple_lines;

@@ -46,3 +46,22 @@ pub(crate) fn is_new_name(syms: &Symbols, decls: &[Decl], name: &str) -> bool
 {
     is_name(name) && !is_taken(syms, name) && !names_other(decls, name)
 }
+
+// Whether a symbol or a declared sort has the text as its name; what is no name is no sort's.
+fn has_name(syms: &Symbols, text: &str) -> bool
+    ensures { IsTrue result ↔ IsTaken syms.now text.now }
+{
+    if is_name(text) {
+        is_taken(syms, text)
+    } else {
+        syms.find(text).is_some()
+    }
+}
+
+/// Whether the text is a name that is declared.
+pub(crate) fn is_declared(syms: &Symbols, decls: &[Decl], text: &str) -> bool
+    requires { syms.now ≡ table_of decls.now }
+    ensures { IsTrue result ↔ IsDeclared decls.now text.now }
+{
+    has_name(syms, text) || names_other(decls, text)
+}

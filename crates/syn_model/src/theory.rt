@@ -1,18 +1,19 @@
 // A theory: its declarations, and the table of symbols that they make.
-ghost use Rattle.std.specs.Prelude.{◌≡◌, ◌↔◌, ◌++◌, [], ◌∷◌, Err, IfOk, OnErr, OnOk};
+ghost use Rattle.std.specs.Prelude.{◌≡◌, ◌↔◌, ◌++◌, [], ◌∷◌, Err, IfOk, IsTrue, OnErr, OnOk};
 ghost use Rattle.syn_term.specs.Names.{IsName};
 ghost use Rattle.syn_term.specs.Symbols.{MayAdd, with_symbol};
 ghost use Rattle.syn_term.specs.DeclaredSorts.{MayAddList, MayAddTuple, with_list, with_tuple};
 ghost use Rattle.syn_model.specs.Declaring.{Asks, ComesInTime, IsTheory, MayDeclare, is_clause};
 ghost use Rattle.syn_model.specs.Headings as headings;
 ghost use Rattle.syn_model.specs.Theories.{MayBring, Steps, bare_theory, with_decl};
-ghost use Rattle.syn_model.specs.Tables.{fun_symbol, order_symbol, rel_symbol, table_after, table_of};
+ghost use Rattle.syn_model.specs.Tables.{IsDeclared, fun_symbol, order_symbol, rel_symbol, table_after, table_of};
 ghost use Rattle.syn_model.specs.declared.theory.DeclError.TheVariants as error;
 
 use crate::copying::decls_again;
 use crate::decl::Decl;
 use crate::headings::is_whole;
 use crate::may_follow::may_follow;
+use crate::naming::is_declared;
 use sqlite_items::Items;
 use std::alloc::Global;
 use std::marker::Model;
@@ -243,6 +244,13 @@ impl Theory {
         ensures { result.now ≡ table_of (self.now).decls }
     {
         &self.syms
+    }
+
+    /// Whether something that is declared has the text as its name.
+    pub fn declares(&self, text: &str) -> bool
+        ensures { IsTrue result ↔ IsDeclared (self.now).decls text.now }
+    {
+        is_declared(&self.syms, self.decls.as_slice(), text)
     }
 
     /// Whether no clause of the function or relation declared last is missing.
