@@ -1,3 +1,4 @@
 pub mod FirstLaws
 pub mod SimpleLaws
 pub mod Printing
+pub mod SameTexts
