@@ -1,5 +1,5 @@
--- For public contracts: the one text that is printed for a theory or a specification, and the names that variables get in it.
-use Rattle.std.specs.Prelude.{◌≡◌, ℕ, ◌+◌, ◌<◌, ◌≤◌, Bool, List, [], ◌∷◌, ◌++◌, Option, None, Some, codes, decimal, length, map}
+-- For public contracts: the one text that is printed for a theory, and the names that variables get in it.
+use Rattle.std.specs.Prelude.{◌≡◌, ℕ, ◌<◌, ◌≤◌, List, [], ◌∷◌, ◌++◌, Option, None, Some, All, codes, decimal, map}
 use Rattle.std.specs.List.{flat_map}
 use Rattle.std.specs.Option.{option_map_or}
 use Rattle.syn_term.specs.declared.sorts.Sort.{Sort}
@@ -16,13 +16,9 @@ use Rattle.syn_form.specs.Texts.{expression_limit}
 use Rattle.syn_form.specs.Trees.{FormTree, OutTree, QFormTree, form_depth, form_nodes, out_depth, out_nodes, term_vars}
 use Rattle.syn_model.specs.declared.decl.Decl.{Decl}
 use Rattle.syn_model.specs.declared.decl.Decl.TheVariants as decl
-use Rattle.syn_model.specs.declared.spec_part.SpecPart.{SpecPart}
-use Rattle.syn_model.specs.declared.spec_part.SpecPart.TheVariants as part
 use Rattle.syn_model.specs.Heads.{Param}
-use Rattle.syn_model.specs.Specifications.{SpecTree}
 use Rattle.syn_model.specs.Tables.{IsDeclared, table_of}
 use Rattle.syn_model.specs.Theories.{TheoryTree}
-use Rattle.syn_files.specs.SpecLines.{output_names}
 use Rattle.syn_files.specs.TheoryLines.{direction, file_scope, heading_name, numbered, parameter_of}
 
 -- the name of the variable with a number: `x` and the number, as `x1`; with a mark, which is the same in the whole line, `x`, the mark,
@@ -31,9 +27,9 @@ abbrev pub name_by : Option ℕ → ℕ → List ℕ
 name_by None n = codes "x" ++ decimal n
 name_by (Some j) n = codes "x" ++ decimal j ++ codes "_" ++ decimal n
 
--- none of these variables, numbered from 1, gets a name that is taken
+-- none of these variables gets a name that is taken
 abbrev pub AreFree : (List ℕ → Type 0) → List Var → Option ℕ → Type 0
-AreFree Taken vars mark = (n : ℕ) → 1 ≤ n → n ≤ length vars → Taken (name_by mark n) → ⊥
+AreFree Taken vars mark = All (λ v. Taken (name_by mark v.number) → ⊥) vars
 
 -- the mark of a line with these variables: none, where no name without one is taken; else the least from 1 on that gives no name that is
 -- taken
@@ -63,6 +59,10 @@ symbol_text table f = name_of (symbol_at table f)
 abbrev pub parameter_text : SymbolTable → Param → List ℕ
 parameter_text table p = p.name ++ codes ": " ++ sort_text table p.sort
 
+-- the same of a variable with its name
+abbrev pub named_text : SymbolTable → Named → List ℕ
+named_text table n = parameter_text table (parameter_of n)
+
 -- `NAME(.., ..)`, with these texts in the brackets
 abbrev pub in_brackets_text : List ℕ → List (List ℕ) → List ℕ
 in_brackets_text name texts = name ++ codes "(" ++ comma_list texts ++ codes ")"
@@ -91,10 +91,6 @@ rel_text table name args = codes "rel " ++ in_brackets_text name (sort_texts tab
 abbrev pub clause_front : TextScope → List ℕ → List TermTree → List ℕ
 clause_front scope own args = codes "clause " ++ in_brackets_text own (map (printed_term scope) args)
 
--- the variables of a clause's line, with their names
-abbrev pub clause_scope : SymbolTable → Option ℕ → List TermTree → TextScope
-clause_scope table mark args = file_scope table (named_by mark (flat_map term_vars args))
-
 -- `clause f(q1, .., qn) = OUT`
 abbrev pub fun_clause_text : TextScope → List ℕ → List TermTree → OutTree → List ℕ
 fun_clause_text scope own args body = clause_front scope own args ++ codes " = " ++ printed_out scope body
@@ -106,7 +102,7 @@ rel_clause_text scope own args body = clause_front scope own args ++ codes " <->
 -- `order w(x: S, ..) by TERM`
 abbrev pub order_text : SymbolTable → List ℕ → List Named → TermTree → List ℕ
 order_text table name names measure =
-    codes "order " ++ in_brackets_text name (map (λ n. parameter_text table (parameter_of n)) names) ++ codes " by " ++ printed_term (file_scope table names) measure
+    codes "order " ++ in_brackets_text name (map (named_text table) names) ++ codes " by " ++ printed_term (file_scope table names) measure
 
 -- `axiom NAME: FORM`
 abbrev pub axiom_text : SymbolTable → List ℕ → QFormTree → List ℕ
@@ -116,22 +112,25 @@ axiom_text table name form = codes "axiom " ++ name ++ codes ": " ++ printed_qfo
 abbrev pub given_text : SymbolTable → Option SymId → List ℕ
 given_text table gives = option_map_or (λ r. codes " " ++ symbol_text table r) gives []
 
+-- `mono NAME: REL up`
+abbrev pub mono_front : SymbolTable → List ℕ → Mono → List ℕ
+mono_front table name m = codes "mono " ++ name ++ codes ": " ++ symbol_text table m.rel ++ codes " " ++ direction m.up
+
 -- `mono NAME: REL up SYM K`, and its kin
 abbrev pub mono_text : SymbolTable → List ℕ → Mono → List ℕ
-mono_text table name m =
-    codes "mono " ++ name ++ codes ": " ++ symbol_text table m.rel ++ codes " " ++ direction m.up ++ codes " " ++ symbol_text table m.sym ++ codes " " ++ decimal m.place ++ given_text table m.gives
+mono_text table name m = mono_front table name m ++ codes " " ++ symbol_text table m.sym ++ codes " " ++ decimal m.place ++ given_text table m.gives
 
--- the line of a declaration, where the last heading has this name, and this mark names the variables
-abbrev pub printed_decl : SymbolTable → List ℕ → Option ℕ → Decl → List ℕ
-printed_decl table own mark (decl.ListSort name nil cons item) = list_sort_text table name nil cons item
-printed_decl table own mark (decl.TupleSort name make parts) = tuple_sort_text table name make parts
-printed_decl table own mark (decl.Fun name args result) = fun_text table name args result
-printed_decl table own mark (decl.Rel name args) = rel_text table name args
-printed_decl table own mark (decl.FunClause args body) = fun_clause_text (clause_scope table mark args) own args body
-printed_decl table own mark (decl.RelClause args body) = rel_clause_text (clause_scope table mark args) own args body
-printed_decl table own mark (decl.Order name args measure) = order_text table name (named_by mark (numbered 1 args)) measure
-printed_decl table own mark (decl.Axiom name form) = axiom_text table name form
-printed_decl table own mark (decl.Monotone name m) = mono_text table name m
+-- the line of a declaration, where the last heading has this name, and these are the line's variables with their names
+abbrev pub printed_decl : SymbolTable → List ℕ → List Named → Decl → List ℕ
+printed_decl table own names (decl.ListSort name nil cons item) = list_sort_text table name nil cons item
+printed_decl table own names (decl.TupleSort name make parts) = tuple_sort_text table name make parts
+printed_decl table own names (decl.Fun name args result) = fun_text table name args result
+printed_decl table own names (decl.Rel name args) = rel_text table name args
+printed_decl table own names (decl.FunClause args body) = fun_clause_text (file_scope table names) own args body
+printed_decl table own names (decl.RelClause args body) = rel_clause_text (file_scope table names) own args body
+printed_decl table own names (decl.Order name args measure) = order_text table name names measure
+printed_decl table own names (decl.Axiom name form) = axiom_text table name form
+printed_decl table own names (decl.Monotone name m) = mono_text table name m
 
 -- the name of the last heading after one more declaration
 abbrev pub own_after : List ℕ → Decl → List ℕ
@@ -139,36 +138,22 @@ own_after own (decl.FunClause args body) = own
 own_after own (decl.RelClause args body) = own
 own_after own d = heading_name (Some d)
 
--- one line for each of these declarations, of a theory that has all of those
+-- the line of a declaration of a theory that has all of these
+abbrev pub IsPrintedLine : List Decl → List ℕ → Decl → List ℕ → Type 0
+IsPrintedLine all own d line = (mark : Option ℕ) × IsMark (IsDeclared all) (line_vars d) mark × (line ≡ printed_decl (table_of all) own (named_by mark (line_vars d)) d)
+
+-- one line for each of these declarations
 abbrev pub PrintLines : List Decl → List ℕ → List Decl → List (List ℕ) → Type 0
 PrintLines all own [] [] = Unit {0}
 PrintLines all own [] (line ∷ lines) = ⊥
 PrintLines all own (d ∷ ds) [] = ⊥
-PrintLines all own (d ∷ ds) (line ∷ lines) =
-    ((mark : Option ℕ) × IsMark (IsDeclared all) (line_vars d) mark × (line ≡ printed_decl (table_of all) own mark d)) × PrintLines all (own_after own d) ds lines
+PrintLines all own (d ∷ ds) (line ∷ lines) = IsPrintedLine all own d line × PrintLines all (own_after own d) ds lines
 
 -- the text is the one that is printed for the theory
 pub record IsPrintedTheory (t : TheoryTree) (text : List ℕ) : Type 0 where
   pub lines : List (List ℕ)
   pub each : PrintLines t.decls [] t.decls lines
   pub is : text ≡ flat_map with_feed ((codes "theory " ++ t.name) ∷ lines)
-
--- the line of a part
-abbrev pub printed_part : SpecTree → SpecPart → List ℕ
-printed_part s (part.Requires form) = codes "requires " ++ printed_form (file_scope s.table []) form
-printed_part s (part.Ensures form) = codes "ensures " ++ printed_qform (file_scope s.table (output_names s)) form
-printed_part s (part.Order name) = codes "order " ++ name
-printed_part s (part.Primitive names) = codes "primitive " ++ comma_list names
-printed_part s (part.Taken names) = codes "use " ++ comma_list names
-
--- `program f(a: S, ..): z: S`
-abbrev pub printed_head : SpecTree → List ℕ
-printed_head s =
-    codes "program " ++ in_brackets_text s.head.program (map (parameter_text s.table) s.head.inputs) ++ codes ": " ++ s.output ++ codes ": " ++ sort_text s.table s.head.result
-
--- the text that is printed for the specification
-abbrev pub printed_spec : SpecTree → List ℕ
-printed_spec s = flat_map with_feed ((codes "spec " ++ s.name) ∷ printed_head s ∷ map (printed_part s) s.parts)
 
 -- each expression of the declaration is within the limit of an expression
 abbrev pub IsWithinLimit : Decl → Type 0
@@ -177,9 +162,3 @@ IsWithinLimit (decl.RelClause args body) = (form_nodes body ≤ expression_limit
 IsWithinLimit (decl.Order name args measure) = (nodes measure ≤ expression_limit.nodes) × (depth_of measure ≤ expression_limit.depth)
 IsWithinLimit (decl.Axiom name form) = (qform_nodes form ≤ expression_limit.nodes) × (qform_depth form ≤ expression_limit.depth)
 IsWithinLimit _ = Unit {0}
-
--- the same of a specification's part
-abbrev pub IsPartWithinLimit : SpecPart → Type 0
-IsPartWithinLimit (part.Requires form) = (form_nodes form ≤ expression_limit.nodes) × (form_depth form ≤ expression_limit.depth)
-IsPartWithinLimit (part.Ensures form) = (qform_nodes form ≤ expression_limit.nodes) × (qform_depth form ≤ expression_limit.depth)
-IsPartWithinLimit _ = Unit {0}

@@ -5,6 +5,9 @@
 mod axiom_lines;
 mod cursor;
 mod decl_lines;
+mod naming;
+mod print_decls;
+mod print_theory;
 mod simple_lines;
 mod theory_text;
 mod title;

@@ -1,12 +1,13 @@
 // The names that the variables of a printed line get: `x` and the number, or, where the theory declares
 // such a name, `x`, a mark, `_` and the number, with the least mark by which no name is declared.
-ghost use Rattle.std.specs.Prelude.{◌≡◌, ◌↔◌, ◌<◌, ◌≤◌, ℕ, Option, IfOk, IsTrue, string_bytes};
+ghost use Rattle.std.specs.Prelude.{◌≡◌, ◌↔◌, ◌++◌, ◌∷◌, [], ◌<◌, ◌≤◌, ℕ, Option, Some, IfOk, OnOk, IsTrue, string_bytes};
 ghost use Rattle.syn_expr.specs.Scopes.{listed};
+ghost use Rattle.syn_form.specs.Scopes.{Named};
 ghost use Rattle.syn_model.specs.Tables.{IsDeclared};
 ghost use Rattle.syn_files.specs.Printed.{AreFree, IsMark, name_by, named_by};
 
-use std::alloc::Global;
 use syn_expr::{put, put_number};
+use std::alloc::Global;
 use syn_model::Theory;
 use syn_term::{NoMemory, Var};
 
@@ -24,24 +25,30 @@ fn name_by(alloc: Global, mark: Option<u32>, number: u32) -> Result<String, NoMe
     Ok(name)
 }
 
-/// Whether the theory declares the name that the variable with this number would get.
-fn is_taken(alloc: Global, theory: &Theory, mark: Option<u32>, number: u32) -> Result<bool, NoMemory>
-    ensures { IfOk result (λ b. IsTrue b ↔ IsDeclared (theory.now).decls (name_by mark number)) }
+/// Whether the theory does not declare the name that the variable with this number gets.
+fn is_free(
+    alloc: Global,
+    theory: &Theory,
+    mark: Option<u32>,
+    number: u32,
+) -> Result<bool, NoMemory>
+    ensures { IfOk result (λ b. IsTrue b ↔ (IsDeclared (theory.now).decls (name_by mark number) → ⊥)) }
 {
-    Ok(theory.declares(name_by(alloc, mark, number)?.as_str()))
+    let name = name_by(alloc, mark, number)?;
+    Ok(!theory.declares(name.as_str()))
 }
 
-/// Whether none of these variables, which are numbered from 1, gets a name that the theory declares.
+/// Whether none of these variables gets a name that the theory declares.
 fn are_free(
     alloc: Global,
     theory: &Theory,
-    vars: &[Var],
     mark: Option<u32>,
+    vars: &[Var],
 ) -> Result<bool, NoMemory>
     ensures { IfOk result (λ b. IsTrue b ↔ AreFree (IsDeclared (theory.now).decls) vars.now mark) }
 {
     for i in 0..vars.len() {
-        if is_taken(alloc, theory, mark, i as u32 + 1)? {
+        if !is_free(alloc, theory, mark, vars[i].number)? {
             return Ok(false);
         }
     }
@@ -54,7 +61,7 @@ fn least_mark(alloc: Global, theory: &Theory, vars: &[Var]) -> Result<u32, NoMem
     ensures { IfOk result (λ j. (1 ≤ j) × AreFree (IsDeclared (theory.now).decls) vars.now (Some j) × ((i : ℕ) → 1 ≤ i → i < j → AreFree (IsDeclared (theory.now).decls) vars.now (Some i) → ⊥)) }
 {
     for mark in 1..u32::MAX {
-        if are_free(alloc, theory, vars, Some(mark))? {
+        if are_free(alloc, theory, Some(mark), vars)? {
             return Ok(mark);
         }
     }
@@ -65,17 +72,20 @@ fn least_mark(alloc: Global, theory: &Theory, vars: &[Var]) -> Result<u32, NoMem
 fn mark_for(alloc: Global, theory: &Theory, vars: &[Var]) -> Result<Option<u32>, NoMemory>
     ensures { IfOk result (IsMark (IsDeclared (theory.now).decls) vars.now) }
 {
-    if are_free(alloc, theory, vars, None)? {
+    if are_free(alloc, theory, None, vars)? {
         return Ok(None);
     }
     Ok(Some(least_mark(alloc, theory, vars)?))
 }
 
-/// The variable with its name.
-fn named(alloc: Global, mark: Option<u32>, var: Var) -> Result<(String, Var), NoMemory>
-    ensures { IfOk result (λ n. (string_bytes n.0 ≡ name_by mark var.number) × (n.1 ≡ var)) }
+/// Puts a variable with its name behind the others.
+fn push_named(names: &mut Vec<(String, Var)>, name: String, var: Var) -> Result<(), NoMemory>
+    ensures { OnOk result (listed names.new.items ≡ listed names.old.items ++ record { text = string_bytes name; var = var } ∷ []) }
 {
-    Ok((name_by(alloc, mark, var.number)?, var))
+    match names.push((name, var)) {
+        Ok(()) => Ok(()),
+        Err(_) => Err(NoMemory),
+    }
 }
 
 /// The variables with their names.
@@ -83,9 +93,21 @@ fn named_by(alloc: Global, mark: Option<u32>, vars: &[Var]) -> Result<Vec<(Strin
     ensures { IfOk result (λ names. listed names.items ≡ named_by mark vars.now) }
 {
     let mut names = Vec::new(alloc);
-    for var in vars {
-        let name = named(alloc, mark, *var)?;
-        push(&mut names, name)?;
+    for i in 0..vars.len() {
+        let name = name_by(alloc, mark, vars[i].number)?;
+        push_named(&mut names, name, vars[i])?;
     }
     Ok(names)
+}
+
+/// The variables of a line with their names.
+pub(crate) fn line_names(
+    alloc: Global,
+    theory: &Theory,
+    vars: &[Var],
+) -> Result<Vec<(String, Var)>, NoMemory>
+    ensures { IfOk result (λ names. (mark : Option ℕ) × IsMark (IsDeclared (theory.now).decls) vars.now mark × (listed names.items ≡ named_by mark vars.now)) }
+{
+    let mark = mark_for(alloc, theory, vars)?;
+    named_by(alloc, mark, vars)
 }

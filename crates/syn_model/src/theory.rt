@@ -5,7 +5,7 @@ ghost use Rattle.syn_form.specs.Writing.{CanWriteTable};
 ghost use Rattle.syn_model.specs.Declaring.{Asks, ComesInTime, IsTheory, MayDeclare, is_clause};
 ghost use Rattle.syn_model.specs.Headings as headings;
 ghost use Rattle.syn_model.specs.Theories.{MayBring, Steps, bare_theory, with_decl};
-ghost use Rattle.syn_model.specs.Tables.{axiom_names, monos_of, other_names, table_of};
+ghost use Rattle.syn_model.specs.Tables.{IsDeclared, axiom_names, monos_of, other_names, table_of};
 ghost use Rattle.syn_model.specs.inner.Indexing.{IsNewIn, row_key};
 ghost use Rattle.syn_model.specs.inner.Keeping.{Settles};
 ghost use Rattle.syn_model.specs.declared.theory.DeclError.TheVariants as error;
@@ -16,6 +16,7 @@ use crate::decl::Decl;
 use crate::headings::is_whole;
 use crate::index::{Index, indexed};
 use crate::may_follow::may_follow;
+use crate::naming::is_declared;
 use sqlite_items::Items;
 use std::alloc::Global;
 use std::marker::Model;
@@ -179,6 +180,13 @@ impl Theory {
         ensures { IsTrue result ↔ Contains (map row_key (monos_of (self.now).decls)) (row_key mono.now) }
     {
         self.index.has_like(mono)
+    }
+
+    /// Whether something that is declared has the text as its name.
+    pub fn declares(&self, text: &str) -> bool
+        ensures { IsTrue result ↔ IsDeclared (self.now).decls text.now }
+    {
+        is_declared(self, text)
     }
 
     /// Whether no clause of the function or relation declared last is missing.
