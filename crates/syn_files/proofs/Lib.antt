@@ -6,3 +6,5 @@ pub mod EntryLaws
 pub mod AxiomLaws
 pub mod WriteOnce
 pub mod LoopLaws
+pub mod NumberLaws
+pub mod MonoLaws

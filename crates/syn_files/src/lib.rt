@@ -5,6 +5,7 @@
 mod axiom_lines;
 mod cursor;
 mod decl_lines;
+mod mono_lines;
 mod simple_lines;
 mod theory_text;
 mod title;
