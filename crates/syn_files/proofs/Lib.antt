@@ -8,3 +8,5 @@ pub mod WriteOnce
 pub mod LoopLaws
 pub mod Printing
 pub mod SameTexts
+pub mod NumberLaws
+pub mod MonoLaws

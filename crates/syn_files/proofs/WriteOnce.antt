@@ -17,10 +17,10 @@ use Rattle.syn_expr.proofs.Readers.{qform_reader}
 use Rattle.syn_expr.proofs.Stands.{one_stands}
 use Rattle.syn_files.specs.TheoryLines.{TheoryLine, Writes, file_scope}
 use Rattle.syn_files.specs.inner.Firsts.{Got, got}
-use Rattle.syn_files.specs.inner.SimpleLines.{entry_first, fun_line, rel_line, sort_line}
+use Rattle.syn_files.specs.inner.SimpleLines.{entry_first, fun_line, mono_line, rel_line, sort_line}
 use Rattle.syn_files.proofs.AxiomLaws.{axiom_once}
 use Rattle.syn_files.proofs.EntryLaws.{entry_read}
-use Rattle.syn_files.proofs.Keywords.{fun_only, keyword, keyword_first, rel_only, sort_only}
+use Rattle.syn_files.proofs.Keywords.{fun_only, keyword, keyword_first, mono_only, rel_only, sort_only}
 use Rattle.syn_files.proofs.StepLaws.{WriteOnce, lines_once}
 
 -- words behind a first word
@@ -52,7 +52,7 @@ same_kind ds (decl.Axiom name form) e ws each h may k too = axioms_once ds ws ea
 same_kind ds (decl.FunClause args body) e ws each h may k too = ?
 same_kind ds (decl.RelClause args body) e ws each h may k too = ?
 same_kind ds (decl.Order name args measure) e ws each h may k too = ?
-same_kind ds (decl.Monotone name mono) e ws each h may k too = ?
+same_kind ds (decl.Monotone name mono) e ws each h may k too = by_function ds ws (mono_line (table_of ds) ws) _ e (mono_only ds ws _ h may) (mono_only ds ws e k too)
 
 pub write_once : WriteOnce
 write_once ds words d e each h may k too =

@@ -1,7 +1,9 @@
 -- For private contracts: what stands at the front of words, and the words behind it.
-use Rattle.std.specs.Prelude.{◌≡◌, ℕ, Bool, true, false, ◌&&◌, List, [], ◌∷◌, ◌++◌, Option, None, Some, codes, if◌then◌else◌}
+use Rattle.std.specs.Prelude.{◌≡◌, ℕ, Bool, true, false, ◌&&◌, List, [], ◌∷◌, ◌++◌, Option, None, Some, codes, decimal, if◌then◌else◌, nat_lt, ◌^◌}
 use Rattle.std.specs.Option.{option_and_then, option_map}
 use Rattle.std.specs.Str.{bytes_eq}
+use Rattle.std.specs.Str.Parse.{digits_value}
+use Rattle.syn_form.specs.Elaboration.{symbol_named}
 use Rattle.syn_term.specs.declared.sorts.Sort.{Sort}
 use Rattle.syn_term.specs.declared.sorts.SymId.{SymId}
 use Rattle.syn_term.specs.declared.tokens.TokenKind.{TokenKind}
@@ -72,3 +74,24 @@ sorts_on table (Some s) (w ∷ ws) =
 -- sorts in brackets
 abbrev pub sorts_first : SymbolTable → List Word → Option (Got (List Sort))
 sorts_first table ws = sign_first (codes "(") ws >>= sorts_on table None
+
+-- a number of at most seven digits, with no zero before others
+abbrev pub number_in : List ℕ → Option ℕ
+number_in bytes = if bytes_eq bytes (decimal (digits_value 10 bytes)) && nat_lt (digits_value 10 bytes) (10 ^ 7) then Some (digits_value 10 bytes) else None
+
+abbrev pub number_of_kind : TokenKind → List ℕ → Option ℕ
+number_of_kind kind.Number bytes = number_in bytes
+number_of_kind _ bytes = None
+
+abbrev pub number_first : List Word → Option (Got ℕ)
+number_first [] = None
+number_first (w ∷ ws) = option_map (λ n. got n ws) (number_of_kind w.kind w.bytes)
+
+abbrev pub symbol_first : SymbolTable → List Word → Option (Got SymId)
+symbol_first table ws = name_first ws >>= λ x. option_map (λ f. got f x.left) (symbol_named table x.value)
+
+abbrev pub direction_of : List ℕ → Option Bool
+direction_of x = if bytes_eq x (codes "up") then Some true else (if bytes_eq x (codes "down") then Some false else None)
+
+abbrev pub direction_first : List Word → Option (Got Bool)
+direction_first ws = name_first ws >>= λ x. option_map (λ b. got b x.left) (direction_of x.value)
