@@ -5,10 +5,10 @@
 mod axiom_lines;
 mod cursor;
 mod decl_lines;
+mod mono_lines;
 mod naming;
 mod print_decls;
 mod print_theory;
-mod mono_lines;
 mod simple_lines;
 mod theory_text;
 mod title;
