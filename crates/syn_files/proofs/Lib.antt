@@ -2,3 +2,4 @@ pub mod FirstLaws
 pub mod SimpleLaws
 pub mod Printing
 pub mod SameTexts
+pub mod LineNames

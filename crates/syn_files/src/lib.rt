@@ -5,5 +5,7 @@
 mod cursor;
 mod naming;
 mod print_decls;
-mod print_theory;
+mod print_lines;
 mod simple_lines;
+
+pub use print_lines::print_theory;
