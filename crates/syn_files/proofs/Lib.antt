@@ -8,3 +8,4 @@ pub mod WriteOnce
 pub mod LoopLaws
 pub mod NumberLaws
 pub mod MonoLaws
+pub mod ParamLaws
