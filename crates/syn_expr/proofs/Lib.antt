@@ -24,6 +24,7 @@ pub mod FormFitting
 pub mod Taking
 pub mod Stands
 pub mod Readers
+pub mod TextReads
 pub mod TreeReadings
 pub mod Puts
 pub mod TermPuts

@@ -1,5 +1,5 @@
 -- Which tree a syntax tree is taken for, as the code finds it: what was counted decides, then what it stands for, then the sorts.
-use Rattle.std.proofs.Common.{◌≡◌, ◌↔◌, ◌⊎◌, inl, inr, IfSome, ℕ, ◌≤◌, Bool, true, false, List, Option, None, Some, IsTrue, sym, ◌∙◌, ap, subst, arith, true≢false}
+use Rattle.std.proofs.Common.{◌≡◌, ◌↔◌, inl, inr, IfSome, ℕ, ◌≤◌, Bool, false, List, Option, None, Some, IsTrue, sym, ◌∙◌, ap, subst, arith, true≢false}
 use Rattle.std.specs.Option.{option_map}
 use Rattle.syn_term.specs.declared.sorts.Var.{Var}
 use Rattle.syn_term.specs.Terms.{TermTree, bare}

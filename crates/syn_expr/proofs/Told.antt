@@ -1,5 +1,5 @@
 -- Over a well formed table a plain tree can be read where its variables are told apart.
-use Rattle.std.proofs.Common.{◌≡◌, ◌≢◌, ℕ, zero, suc, ◌+◌, ◌<◌, ◌≤◌, ◌^◌, ◌⊎◌, inl, inr, Bool, true, false, not, ◌&&◌, if◌then◌else◌, nat_eq, List, [], ◌∷◌, ◌++◌, Option, None, Some, All, Contains, codes, length, map, slice_get, get_or, position, refl, sym, ◌∙◌, ap, subst, arith, true≢false}
+use Rattle.std.proofs.Common.{◌≡◌, ℕ, zero, suc, ◌<◌, ◌≤◌, ◌^◌, ◌⊎◌, inl, inr, Bool, true, false, not, ◌&&◌, if◌then◌else◌, nat_eq, List, [], ◌∷◌, ◌++◌, Option, None, Some, All, Contains, codes, length, map, slice_get, get_or, position, refl, sym, ◌∙◌, ap, subst, arith, true≢false}
 use Rattle.std.specs.List.{flat_map}
 use Rattle.std.specs.Option.{option_map}
 use Rattle.std.specs.Str.{bytes_eq}
@@ -22,7 +22,7 @@ use Rattle.syn_term.specs.declared.term.Node.TheVariants as node
 use Rattle.syn_term.specs.declared.term.Node.TheViews as view
 use Rattle.syn_term.specs.Names.{IsName}
 use Rattle.syn_term.specs.Symbols.{SymbolTable, FitsName, IsSort, IsTaken, names_of, succ_symbol, symbol_at, zero_symbol}
-use Rattle.syn_term.specs.DeclaredSorts.{IsTable, name_of_sort, sort_named}
+use Rattle.syn_term.specs.DeclaredSorts.{IsTable, name_of_sort}
 use Rattle.syn_term.specs.Terms.{TermTree, IsApplication}
 use Rattle.syn_term.specs.Tokens.{is_reserved}
 use Rattle.syn_term.proofs.SortLemmas.{name_other, place_found}
@@ -38,7 +38,7 @@ use Rattle.syn_form.proofs.TermNodes.{by_term_cases, every-App, every-Var, node-
 use Rattle.syn_form.proofs.Variables.{application_vars}
 use Rattle.syn_expr.specs.Readable.{CanReadNode, CanReadSort, CanReadSymbol, CanReadTerm, CanReadVar, CanReadVarIn, IsNamed, IsUnshadowed, symbol_head}
 use Rattle.syn_form.specs.Writing.{CanWrite, CanWriteAll}
-use Rattle.syn_expr.specs.Told.{AreTold, AreToldIn, AreToldInFile, AreToldInRows, TellsApart}
+use Rattle.syn_expr.specs.Told.{AreTold, AreToldIn, TellsApart}
 use Rattle.syn_expr.proofs.BackTerms.{name_not_reserved}
 use Rattle.syn_expr.proofs.TermCounts.{value_there}
 

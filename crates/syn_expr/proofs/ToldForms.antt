@@ -1,5 +1,5 @@
 -- Plain formulas and outputs can be read where their variables are told apart, and closed formulas with quantifiers are.
-use Rattle.std.proofs.Common.{◌≡◌, ◌≢◌, ℕ, ◌+◌, ◌<◌, ◌≤◌, ◌⊎◌, inl, inr, Bool, true, false, not, ◌&&◌, cond, if◌then◌else◌, nat_eq, List, [], ◌∷◌, ◌++◌, All, Contains, Some, length, map, get_or, refl, sym, ◌∙◌, ap, subst, arith}
+use Rattle.std.proofs.Common.{◌≡◌, ◌≢◌, ℕ, ◌+◌, ◌<◌, ◌≤◌, ◌⊎◌, inl, inr, Bool, true, false, not, ◌&&◌, if◌then◌else◌, nat_eq, List, [], ◌∷◌, ◌++◌, All, Contains, Some, length, map, refl, sym, ◌∙◌, ap, subst, arith}
 use Rattle.std.specs.List.{flat_map, list_any, range_with_len}
 use Rattle.std.specs.Str.{bytes_eq}
 use Rattle.std.proofs.lemmas.Bool.{false_from_ne_true}
@@ -17,8 +17,7 @@ use Rattle.syn_term.specs.declared.sorts.Sym.{Sym}
 use Rattle.syn_term.specs.declared.sorts.SymId.{SymId}
 use Rattle.syn_term.specs.declared.sorts.Var.{Var}
 use Rattle.syn_term.specs.Names.{IsName}
-use Rattle.syn_term.specs.Symbols.{SymbolTable, IsTaken, names_of, symbol_at}
-use Rattle.syn_term.specs.DeclaredSorts.{IsTable}
+use Rattle.syn_term.specs.Symbols.{IsTaken, names_of}
 use Rattle.syn_term.specs.Terms.{TermTree, sort_of}
 use Rattle.syn_term.specs.Tokens.{is_reserved}
 use Rattle.syn_form.specs.declared.trees.Binder.{Binder}
@@ -44,7 +43,7 @@ use Rattle.syn_form.proofs.Cuts.{atom_cut, equality_cut, formed_cuts, once_cuts}
 use Rattle.syn_form.proofs.Equations.{form_terms-Atom, form_terms-Equal, form_terms-Implies, form_terms-Not, fold-Give, fold-If}
 use Rattle.syn_form.proofs.FormedForms.{atom_formed, chain_formed, choice_formed, equality_formed, implication_formed, negation_formed, term_formed}
 use Rattle.syn_form.proofs.Induction.{by_forms, by_outs}
-use Rattle.syn_form.proofs.Lists.{Contains-append_both, Contains-cons_cases, Contains-flat_map, Contains-flat_map_from, Contains-head, Contains-tail, none_in_nil}
+use Rattle.syn_form.proofs.Lists.{Contains-cons_cases, Contains-flat_map, Contains-flat_map_from, Contains-head, Contains-tail}
 use Rattle.syn_form.proofs.Nodes.{every-Atom, every-Equal, every-False, every-Give, every-If, every-Implies, every-Not, every-True, every-chain}
 use Rattle.syn_form.proofs.Numbering.{numbers_split}
 use Rattle.syn_form.proofs.Owned.{All-left, All-right}

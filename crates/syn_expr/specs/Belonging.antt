@@ -9,7 +9,7 @@ use Rattle.syn_term.specs.Bank.{Kept, Belongs, Extends, Belongs-extends}
 use Rattle.syn_term.specs.Terms.{TermTree}
 use Rattle.syn_form.specs.declared.syntax.Quantifier.{Quantifier}
 use Rattle.syn_form.specs.declared.syntax.Quantifier.TheVariants as quantifier
-use Rattle.syn_form.specs.declared.trees.QForm.{roll-QForm, fold-QForm, fold-roll-QForm}
+use Rattle.syn_form.specs.declared.trees.QForm.{roll-QForm, fold-roll-QForm}
 use Rattle.syn_form.specs.declared.trees.QForm.TheOpen.{QForm-F}
 use Rattle.syn_form.specs.declared.trees.QForm.TheVariants as form
 use Rattle.syn_form.specs.declared.trees.QForm.TheViews as view

@@ -3,3 +3,12 @@ pub mod SimpleLaws
 pub mod Printing
 pub mod SameTexts
 pub mod LineNames
+pub mod Keywords
+pub mod StepLaws
+pub mod EntryLaws
+pub mod AxiomLaws
+pub mod WriteOnce
+pub mod LoopLaws
+pub mod NumberLaws
+pub mod MonoLaws
+pub mod ParamLaws

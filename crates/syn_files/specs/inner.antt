@@ -1,3 +1,4 @@
 pub mod Firsts
 pub mod SimpleLines
 pub mod Entries
+pub mod Telling

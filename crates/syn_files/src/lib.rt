@@ -2,10 +2,16 @@
 //! a theory or a specification. What is printed reads back to an equal one.
 #![tactic(auto)]
 
+mod axiom_lines;
 mod cursor;
+mod decl_lines;
+mod mono_lines;
 mod naming;
 mod print_decls;
 mod print_lines;
 mod simple_lines;
+mod theory_text;
+mod title;
 
 pub use print_lines::print_theory;
+pub use theory_text::read_theory;

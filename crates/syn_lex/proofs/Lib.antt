@@ -8,3 +8,5 @@ pub mod Spelling
 pub mod Led
 pub mod Comments
 pub mod ByGrammar
+pub mod NotSpelled
+mod LineWords

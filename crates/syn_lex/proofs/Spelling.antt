@@ -31,3 +31,8 @@ lexed_spelled line ts h = spelled line 0 ts h.0 h.1 h.2
 pub where_ok : {X Y : Type 0} (r : Result X Y) (P Q : X → Type 0) (E : Y → Type 0) → ((x : X) → P x → Q x) → MatchResult r P E → IfOk r Q
 where_ok (Ok x) P Q E weaker h = weaker x h
 where_ok (Err y) P Q E weaker h = tt
+
+-- the words that are lent of a line's tokens are those that the text is made of
+pub lent_spelled : (line text : List ℕ) (found lent : List Token) (words : List Word) → line ≡ text → lent ≡ found → words ≡ words_of line lent → Spelled line (words_of line found) → Spelled text words
+lent_spelled line text found lent words same whole is h =
+    subst (λ (z : List ℕ). Spelled z words) same (subst (Spelled line) (sym (is ∙ ap (words_of line) whole)) h)

@@ -2,7 +2,7 @@
 -- First by the grammar of tokens alone, then by the scanner's own account.
 use Rattle.std.specs.Prelude.{◌≡◌, ℕ, ◌+◌, ◌-◌, ◌<◌, ◌≤◌, ◌⊎◌, ◌↔◌, List, [], ◌∷◌, IsTrue, length, drop, take, get_or, map}
 use Rattle.std.specs.Str.{byte, IsUtf8}
-use Rattle.syn_term.specs.Tokens.{gap, over, bad, token, starts, is_blank, Word, IsToken, IsCutOff, IsWholeToken, IsLongest, BeginsNothing}
+use Rattle.syn_term.specs.Tokens.{gap, over, bad, token, starts, is_blank, Word, IsToken, IsCutOff, IsWholeToken, IsLongest, BeginsNothing, Spelled}
 use Rattle.syn_term.specs.declared.tokens.TokenKind.{TokenKind}
 use Rattle.syn_lex.specs.TextLines.{Without}
 use Rattle.syn_lex.specs.declared.token.Token.{Token}
@@ -109,3 +109,16 @@ word_of line t = record { kind = t.kind; bytes = bytes_of line t }
 -- The tokens as words of the line.
 abbrev pub words_of : List ℕ → List Token → List Word
 words_of line = map (word_of line)
+
+-- A word by its kind and its bytes.
+abbrev pub word : TokenKind → List ℕ → Word
+word k bytes = record { kind = k; bytes = bytes }
+
+-- The word is a token of its kind.
+abbrev pub IsTokenWord : Word → Type 0
+IsTokenWord w = IsToken w.kind w.bytes
+
+-- Where a byte begins nothing, the line is made of no words.
+abbrev pub WithoutWords : List ℕ → LexError → Type 0
+WithoutWords line (error.At p) = (words : List Word) → ¬ (Spelled line words)
+WithoutWords line error.NoMemory = Unit {0}

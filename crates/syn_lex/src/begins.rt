@@ -4,10 +4,10 @@ ghost use Rattle.std.specs.Prelude.{◌≡◌, ◌≤◌, ◌<◌, length};
 ghost use Rattle.syn_term.specs.Tokens as tokens;
 ghost use Rattle.syn_lex.specs.inner.Finding.{seen, Within};
 
-use crate::token::What;
-use crate::words::{
+use crate::lengths::{
     after, byte_at, comment_len, counted_len, name_len, number_len, sort_len, stop_len, tag_len,
 };
+use crate::token::What;
 use syn_term::TokenKind;
 
 #[tactic(auto, unfolding(syn_term::specs::Tokens::row_len))]

@@ -4,12 +4,14 @@
 #![tactic(auto)]
 
 mod begins;
+mod lengths;
 mod lexer;
+mod line_words;
 mod lines;
 mod token;
-mod words;
 
-pub use lexer::tokens;
+pub use lexer::{line_tokens, tokens};
+pub use line_words::Words;
 pub use lines::{Cut, FileError, split_at, split_lines};
 pub use syn_term::TokenKind;
 pub use token::{LexError, Token};

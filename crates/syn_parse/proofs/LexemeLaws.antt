@@ -1,4 +1,4 @@
--- A text is written by one list of lexemes at most: what a word spells is told by the word.
+-- Words are written by one list of lexemes at most: what a word spells is told by the word.
 use Rattle.std.proofs.Common.{◌≡◌, ℕ, ◌<◌, ◌≤◌, ◌^◌, List, [], ◌∷◌, ◌++◌, inl, inr, Option, None, Some, Bool, false, cond, nat_eq, All, decimal, codes, length, map, refl, sym, ◌∙◌, ap, subst, arith}
 use Rattle.std.specs.Char.{digit_value}
 use Rattle.std.specs.Int.{IsInRange}
@@ -11,17 +11,16 @@ use Rattle.std.proofs.lemmas.Str.Parse.{digit_from_value}
 use Rattle.syn_term.specs.declared.tokens.TokenKind.{TokenKind}
 use Rattle.syn_term.specs.declared.tokens.TokenKind.TheVariants as kind
 use Rattle.syn_term.specs.Names.{IsNumber}
-use Rattle.syn_term.specs.Tokens.{Word, IsWrittenSort, IsRowVariable, IsToken}
-use Rattle.syn_term.proofs.OneSpelling.{one_spelling}
+use Rattle.syn_term.specs.Tokens.{Word, IsWrittenSort, IsRowVariable}
 use Rattle.syn_form.specs.declared.syntax.Mark.{Mark}
 use Rattle.syn_form.specs.declared.syntax.Mark.TheVariants as mark
 use Rattle.syn_form.specs.declared.syntax.Lexeme.{Lexeme}
 use Rattle.syn_form.specs.declared.syntax.Lexeme.TheVariants as lexeme
 use Rattle.syn_form.specs.Grammar.{mark_word, spelling}
-use Rattle.syn_parse.specs.Lexemes.{IsCanonical, IsWritten}
+use Rattle.syn_lex.specs.Lexing.{IsTokenWord}
+use Rattle.syn_parse.specs.Lexemes.{IsCanonical, IsWrittenBy}
 use Rattle.syn_parse.proofs.DigitRuns.{decimal_digits, one_number}
 use Rattle.syn_parse.proofs.MarkTable.{one_mark}
-use Rattle.syn_parse.proofs.NotSpelled.{spelled_tokens}
 
 -- the bytes before the first colon, and those behind it
 abbrev before : List ℕ → List ℕ
@@ -127,9 +126,6 @@ same_class l m e = sym (class_is l) ∙ (ap (λ (w : Word). class w.kind) e ∙ 
 same_bytes : (l m : Lexeme) → spelling l ≡ spelling m → (spelling l).bytes ≡ (spelling m).bytes
 same_bytes l m e = ap (λ (w : Word). w.bytes) e
 
-abbrev IsTokenWord : Word → Type 0
-IsTokenWord w = IsToken w.kind w.bytes
-
 -- two lexemes that are spelled by one token are one, where a name is not spelled like a mark
 pub one_lexeme : (l m : Lexeme) → IsTokenWord (spelling l) → IsCanonical l → IsCanonical m → spelling l ≡ spelling m → l ≡ m
 one_lexeme (lexeme.Number j) (lexeme.Number k) is c d e =
@@ -165,7 +161,6 @@ same_lists (l ∷ ls) (m ∷ ms) is c d e =
     (same_lists ls ms (All-tail IsTokenWord (spelling l) (map spelling ls) is) (All-tail IsCanonical l ls c) (All-tail IsCanonical m ms d)
     (other_words (spelling l) (spelling m) (map spelling ls) (map spelling ms) e))
 
--- a text is written by one list of lexemes at most
-pub one_writing : (bytes : List ℕ) (ls ms : List Lexeme) → IsWritten bytes ls → IsWritten bytes ms → ls ≡ ms
-one_writing bytes ls ms w v =
-    same_lists ls ms (spelled_tokens bytes (map spelling ls) w.1) w.0 v.0 (one_spelling bytes (map spelling ls) (map spelling ms) w.1 v.1)
+-- words are written by one list of lexemes at most
+pub one_writing : (ws : List Word) (ls ms : List Lexeme) → All IsTokenWord ws → IsWrittenBy ws ls → IsWrittenBy ws ms → ls ≡ ms
+one_writing ws ls ms is w v = same_lists ls ms (subst (All IsTokenWord) w.1 is) w.0 v.0 (sym w.1 ∙ v.1)

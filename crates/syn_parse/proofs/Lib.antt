@@ -5,7 +5,6 @@ mod FormComplete
 mod FormSound
 mod FormRuns
 pub mod MarkTable
-pub mod NotSpelled
 pub mod TokenTexts
 pub mod TokenLists
 mod DigitRuns
@@ -28,3 +27,4 @@ mod ReadingsWritten
 mod Passed
 pub mod Gives
 pub mod Parses
+pub mod TextParses

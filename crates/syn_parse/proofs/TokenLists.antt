@@ -1,16 +1,15 @@
--- The lexemes of a list of tokens: one more, and none where one token is no lexeme.
-use Rattle.std.proofs.Common.{◌≡◌, ℕ, ◌+◌, ◌<◌, List, [], ◌∷◌, ◌++◌, Option, None, Some, MatchOption, length, map, take, get_or, sym, ◌∙◌, ap, subst, arith}
-use Rattle.std.proofs.lemmas.List.{map_push, map_more, get_or-map, length-map}
+-- The lexemes of words: one more, and none where one word is no lexeme.
+use Rattle.std.proofs.Common.{◌≡◌, ℕ, zero, suc, ◌+◌, ◌<◌, ◌≤◌, List, [], ◌∷◌, ◌++◌, Option, None, Some, MatchOption, length, map, take, get_or, slice_get, sym, ◌∙◌, ap, subst, arith}
+use Rattle.std.proofs.lemmas.List.{map_push, get_or-map, length-map, take_all, take_more}
 use Rattle.std.proofs.lemmas.List.Elements.{All-push}
+use Rattle.std.proofs.lemmas.Option.{get_or_from_slice_get, slice_get_within}
 use Rattle.syn_term.specs.Tokens.{Word}
-use Rattle.syn_lex.specs.declared.token.Token.{Token}
-use Rattle.syn_lex.specs.Lexing.{word_of, words_of}
 use Rattle.syn_form.specs.declared.syntax.Mark.TheVariants as mark
 use Rattle.syn_form.specs.declared.syntax.Lexeme.{Lexeme}
 use Rattle.syn_form.specs.declared.syntax.Lexeme.TheVariants as lexeme
 use Rattle.syn_form.specs.Grammar.{spelling}
-use Rattle.syn_parse.specs.Lexemes.{IsCanonical}
-use Rattle.syn_parse.specs.inner.Spelling.{NoLexeme, Spell, Spells}
+use Rattle.syn_parse.specs.Lexemes.{IsCanonical, IsWrittenBy}
+use Rattle.syn_parse.specs.inner.Spelling.{NoLexeme, Spells}
 
 -- what an answer says
 pub answer_none : (w : Word) (o : Option Lexeme) → o ≡ None → MatchOption o (NoLexeme w) (Spells w) → NoLexeme w
@@ -19,17 +18,26 @@ answer_none w o e h = subst (λ (z : Option Lexeme). MatchOption z (NoLexeme w) 
 pub answer_some : (w : Word) (o : Option Lexeme) (l : Lexeme) → o ≡ Some l → MatchOption o (NoLexeme w) (Spells w) → Spells w l
 answer_some w o l e h = subst (λ (z : Option Lexeme). MatchOption z (NoLexeme w) (Spells w)) e h
 
-pub spell_more : (line : List ℕ) (found : List Token) (i : ℕ) (d : Token) (ls : List Lexeme) (l : Lexeme) → i < length found → Spell (words_of line (take i found)) ls → Spells (word_of line (get_or found i d)) l → Spell (words_of line (take (i + 1) found)) (ls ++ l ∷ [])
-spell_more line found i d ls l lt before here =
-    let words : map spelling (ls ++ l ∷ []) ≡ words_of line (take i found) ++ word_of line (get_or found i d) ∷ [] =
-    map_push spelling ls l ∙ (ap (λ (ws : List Word). ws ++ spelling l ∷ []) before.1 ∙ ap (λ (w : Word). words_of line (take i found) ++ w ∷ []) here.1) in
-    (All-push IsCanonical ls l before.0 here.0, words ∙ sym (map_more (word_of line) found i d lt))
+pub written_more : (ws : List Word) (k : ℕ) (w : Word) (ls : List Lexeme) (l : Lexeme) → slice_get ws k ≡ Some w → IsWrittenBy (take k ws) ls → Spells w l → IsWrittenBy (take (k + 1) ws) (ls ++ l ∷ [])
+written_more ws k w ls l at before here =
+    let within = slice_get_within ws k w at in
+    let words : take (k + 1) ws ≡ take k ws ++ w ∷ [] = take_more ws k w within ∙ ap (λ (z : Word). take k ws ++ z ∷ []) (get_or_from_slice_get ws k w w at) in
+    (All-push IsCanonical ls l before.0 here.0, words ∙ (ap (λ (zs : List Word). zs ++ w ∷ []) before.1 ∙ (ap (λ (z : Word). map spelling ls ++ z ∷ []) (sym here.1) ∙ sym (map_push spelling ls l))))
 
-pub spell_none : (line : List ℕ) (found : List Token) (i : ℕ) (d : Token) → i < length found → NoLexeme (word_of line (get_or found i d)) → (ls : List Lexeme) → Spell (words_of line found) ls → ⊥
-spell_none line found i d lt none ls s =
-    let size : length ls ≡ length found = sym (length-map ls spelling) ∙ (ap length s.1 ∙ length-map found (word_of line)) in
-    let within : i < length ls = omega arith in
+pub written_none : (ws : List Word) (k : ℕ) (w : Word) → slice_get ws k ≡ Some w → NoLexeme w → (ls : List Lexeme) → IsWrittenBy ws ls → ⊥
+written_none ws k w at none ls s =
+    let before = slice_get_within ws k w at in
+    let size : length ls ≡ length ws = sym (length-map ls spelling) ∙ ap length (sym s.1) in
+    let within : k < length ls = omega arith in
     let x : Lexeme = lexeme.Fixed mark.Open in
-    let here : spelling (get_or ls i x) ≡ word_of line (get_or found i d) =
-    sym (get_or-map spelling ls i x (spelling x) within) ∙ (ap (λ (ws : List Word). get_or ws i (spelling x)) s.1 ∙ get_or-map (word_of line) found i d (spelling x) lt) in
-    none (get_or ls i x) (s.0 i x within) here
+    let here : spelling (get_or ls k x) ≡ w =
+    sym (get_or-map spelling ls k x (spelling x) within) ∙ (ap (λ (zs : List Word). get_or zs k (spelling x)) (sym s.1) ∙ get_or_from_slice_get ws k w (spelling x) at) in
+    none (get_or ls k x) (s.0 k x within) here
+
+pub written_all : (ws : List Word) (k : ℕ) (ls : List Lexeme) → slice_get ws k ≡ None → IsWrittenBy (take k ws) ls → IsWrittenBy ws ls
+written_all ws k ls past h = subst (λ (z : List Word). IsWrittenBy z ls) (take_all k ws (past_end ws k past)) h
+  where
+    past_end : (ws : List Word) (k : ℕ) → slice_get ws k ≡ None → length ws ≤ k
+    past_end [] k e = omega arith
+    past_end (w ∷ ws) zero e = absurd (cc)
+    past_end (w ∷ ws) (suc k) e = omega (arith, past_end ws k e)

@@ -15,7 +15,8 @@ use Rattle.syn_term.specs.Tokens.{Word, IsWrittenSort, IsRowVariable, IsToken}
 use Rattle.syn_term.proofs.ReservedWords.{reserved_word}
 use Rattle.syn_form.specs.declared.syntax.Lexeme.{Lexeme}
 use Rattle.syn_form.specs.declared.syntax.Lexeme.TheVariants as lexeme
-use Rattle.syn_parse.specs.inner.Spelling.{NoLexeme, NoMark, NoNumber, Spells, row_word, word}
+use Rattle.syn_lex.specs.Lexing.{word}
+use Rattle.syn_parse.specs.inner.Spelling.{NoLexeme, NoMark, NoNumber, Spells, row_word}
 
 -- numbers
 

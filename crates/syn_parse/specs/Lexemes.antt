@@ -1,6 +1,6 @@
--- Public. Which lexemes a text is made of.
-use Rattle.std.specs.Prelude.{◌≡◌, ℕ, List, All, map}
-use Rattle.syn_term.specs.Tokens.{Spelled}
+-- Public. Which lexemes words are.
+use Rattle.std.specs.Prelude.{◌≡◌, List, All, map}
+use Rattle.syn_term.specs.Tokens.{Word}
 use Rattle.syn_form.specs.declared.syntax.Mark.{Mark}
 use Rattle.syn_form.specs.declared.syntax.Lexeme.{Lexeme}
 use Rattle.syn_form.specs.declared.syntax.Lexeme.TheVariants as lexeme
@@ -11,6 +11,6 @@ abbrev pub IsCanonical : Lexeme → Type 0
 IsCanonical (lexeme.Name x) = (m : Mark) → mark_word m ≡ name_word x → ⊥
 IsCanonical _ = Unit {0}
 
--- the text is one line of these lexemes, with blanks between and at most a comment behind them
-abbrev pub IsWritten : List ℕ → List Lexeme → Type 0
-IsWritten bytes ls = All IsCanonical ls × Spelled bytes (map spelling ls)
+-- the words are the spellings of these lexemes
+abbrev pub IsWrittenBy : List Word → List Lexeme → Type 0
+IsWrittenBy words ls = All IsCanonical ls × (words ≡ map spelling ls)

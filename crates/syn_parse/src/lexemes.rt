@@ -1,18 +1,18 @@
-// A text as lexemes: its tokens, with marks told from names, and with the numbers and sorts that
-// they hold. A text is written by one list of lexemes at most.
+// Words as lexemes: marks are told from names, and numbers and sorts are read. Words are written by one
+// list of lexemes at most.
 ghost use Rattle.std.specs.Prelude.{◌≡◌, ◌++◌, [], List, IfOk, MatchOption, All, codes};
 ghost use Rattle.syn_term.specs.declared.tokens.TokenKind.TheVariants as kind;
 ghost use Rattle.syn_term.specs.Tokens.{IsToken, IsRowVariable};
-ghost use Rattle.syn_lex.specs.Lexing.{IsLongestToken, bytes_of, words_of, word_of};
+ghost use Rattle.syn_lex.specs.Lexing.{IsTokenWord, word};
 ghost use Rattle.syn_form.specs.declared.syntax.Lexeme.{Lexeme};
-ghost use Rattle.syn_parse.specs.Lexemes.{IsWritten};
-ghost use Rattle.syn_parse.specs.inner.Spelling.{IsInside, NoLexeme, NoMark, NoNumber, Spell, Spells, row_word, word};
+ghost use Rattle.syn_parse.specs.Lexemes.{IsWrittenBy};
+ghost use Rattle.syn_parse.specs.inner.Spelling.{NoLexeme, NoMark, NoNumber, Spells, row_word};
 
 use crate::marks::mark_of;
 use crate::stack::Row;
 use std::alloc::Global;
 use syn_form::Lexeme;
-use syn_lex::{LexError, Token, TokenKind, tokens};
+use syn_lex::{TokenKind, Words};
 use syn_term::{NoMemory, Text, decimal_number};
 
 fn number_lexeme(digits: &str) -> Option<Lexeme>
@@ -99,44 +99,19 @@ pub(crate) fn lexeme_of(
     }
 }
 
-/// The lexeme that a token of a line is.
-fn token_lexeme(alloc: Global, line: &[u8], token: Token) -> Result<Option<Lexeme>, NoMemory>
-    requires whole { IsToken token.kind (bytes_of line.now token) }
-    requires inside { IsInside line.now token }
-    ensures { IfOk result (λ o. MatchOption o (NoLexeme (word_of line.now token)) (Spells (word_of line.now token))) }
-{
-    lexeme_of(
-        alloc,
-        token.kind,
-        &line[token.from as usize..token.to as usize],
-    )
-}
-
-/// The lexemes that the tokens of a line are; None where one of them is no lexeme.
-fn lexemes_in(alloc: Global, line: &[u8], found: &[Token]) -> Result<Option<Row<Lexeme>>, NoMemory>
-    requires whole { All (IsLongestToken line.now) found.now }
-    requires inside { All (IsInside line.now) found.now }
-    ensures { IfOk result (λ o. MatchOption o ((ls : List Lexeme) → Spell (words_of line.now found.now) ls → ⊥) (Spell (words_of line.now found.now))) }
+/// The lexemes that the words are; None where one of them is no lexeme. The one error is want of memory.
+pub(crate) fn lexemes_of(alloc: Global, words: &Words) -> Result<Option<Row<Lexeme>>, NoMemory>
+    ensures lexemes { IfOk result (λ o. MatchOption o ((ls : List Lexeme) → IsWrittenBy words.now ls → ⊥) (IsWrittenBy words.now)) }
+    ensures each { All IsTokenWord words.now }
 {
     let mut lexemes = Row::new(alloc);
-    for token in found {
-        match token_lexeme(alloc, line, *token)? {
+    let mut k = 0;
+    while let Some((kind, bytes)) = words.get(k) {
+        match lexeme_of(alloc, kind, bytes)? {
             None => return Ok(None),
             Some(lexeme) => lexemes.push(lexeme)?,
         }
+        k += 1;
     }
     Ok(Some(lexemes))
-}
-
-/// The lexemes that the text is one line of; None where it is not a line of lexemes. The one error
-/// is want of memory.
-pub(crate) fn lexemes_of(alloc: Global, text: &str) -> Result<Option<Row<Lexeme>>, NoMemory>
-    ensures { IfOk result (λ o. MatchOption o ((ls : List Lexeme) → IsWritten text.now ls → ⊥) (IsWritten text.now)) }
-{
-    let line = text.as_bytes();
-    match tokens(alloc, line) {
-        Err(LexError::NoMemory) => Err(NoMemory),
-        Err(LexError::At(_)) => Ok(None),
-        Ok(found) => lexemes_in(alloc, line, found.as_slice()),
-    }
 }

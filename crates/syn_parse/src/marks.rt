@@ -1,7 +1,8 @@
 // The marks, told by their words.
 ghost use Rattle.std.specs.Prelude.{◌≡◌, ◌↔◌, IsTrue, MatchOption};
 ghost use Rattle.syn_form.specs.Grammar.{mark_word};
-ghost use Rattle.syn_parse.specs.inner.Spelling.{word, NoMark};
+ghost use Rattle.syn_lex.specs.Lexing.{word};
+ghost use Rattle.syn_parse.specs.inner.Spelling.{NoMark};
 
 use syn_form::Mark;
 use syn_term::TokenKind;

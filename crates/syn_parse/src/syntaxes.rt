@@ -1,6 +1,7 @@
-// The syntax tree of a text, by the passes in a row: lexemes, phrases, and from these the items one by
+// The syntax tree of words, by the passes in a row: lexemes, phrases, and from these the items one by
 // one to the reader of the tree.
-ghost use Rattle.std.specs.Prelude.{◌≡◌, Option, IfOk};
+ghost use Rattle.std.specs.Prelude.{◌≡◌, All, Option, IfOk};
+ghost use Rattle.syn_lex.specs.Lexing.{IsTokenWord};
 ghost use Rattle.syn_parse.specs.inner.Leads.{Makes};
 ghost use Rattle.syn_parse.specs.inner.Passes.{Gives, form_from, form_of, out_from, out_of, term_from, term_of};
 ghost use Rattle.syn_parse.specs.inner.PhraseMachine as machine;
@@ -15,6 +16,7 @@ use crate::stop::Stop;
 use crate::term_reader::TermReader;
 use std::alloc::Global;
 use syn_form::{FormSyntax, OutSyntax, TermSyntax};
+use syn_lex::Words;
 use syn_term::NoMemory;
 
 /// What a reader answers: None where it stopped at a word.
@@ -28,11 +30,12 @@ fn answer<T: Drop>(read: Result<T, Stop>) -> Result<Option<T>, NoMemory>
     }
 }
 
-/// The phrases of the text.
-fn phrases_in(alloc: Global, text: &str) -> Result<Option<Row<Phrase>>, NoMemory>
-    ensures { IfOk result (Gives machine.phrases_of text.now) }
+/// The phrases that the words are.
+fn phrases_in(alloc: Global, words: &Words) -> Result<Option<Row<Phrase>>, NoMemory>
+    ensures gives { IfOk result (Gives machine.phrases_of words.now) }
+    ensures each { All IsTokenWord words.now }
 {
-    match lexemes_of(alloc, text)? {
+    match lexemes_of(alloc, words)? {
         None => Ok(None),
         Some(lexemes) => answer(phrases_of(alloc, lexemes)),
     }
@@ -74,31 +77,34 @@ fn out_of_phrases(alloc: Global, phrases: Row<Phrase>) -> Result<OutSyntax, Stop
     out
 }
 
-/// The syntax tree of a text that is one term; None where it is none, or one that is too high.
-pub(crate) fn term_syntax(alloc: Global, text: &str) -> Result<Option<TermSyntax>, NoMemory>
-    ensures { IfOk result (Gives term_from text.now) }
+/// The syntax tree of words that are one term; None where they are none, or one that is too high.
+pub(crate) fn term_syntax(alloc: Global, words: &Words) -> Result<Option<TermSyntax>, NoMemory>
+    ensures gives { IfOk result (Gives term_from words.now) }
+    ensures each { All IsTokenWord words.now }
 {
-    match phrases_in(alloc, text)? {
+    match phrases_in(alloc, words)? {
         None => Ok(None),
         Some(phrases) => answer(term_of_phrases(alloc, phrases)),
     }
 }
 
 /// The same for a formula.
-pub(crate) fn form_syntax(alloc: Global, text: &str) -> Result<Option<FormSyntax>, NoMemory>
-    ensures { IfOk result (Gives form_from text.now) }
+pub(crate) fn form_syntax(alloc: Global, words: &Words) -> Result<Option<FormSyntax>, NoMemory>
+    ensures gives { IfOk result (Gives form_from words.now) }
+    ensures each { All IsTokenWord words.now }
 {
-    match phrases_in(alloc, text)? {
+    match phrases_in(alloc, words)? {
         None => Ok(None),
         Some(phrases) => answer(form_of_phrases(alloc, phrases)),
     }
 }
 
 /// The same for an output.
-pub(crate) fn out_syntax(alloc: Global, text: &str) -> Result<Option<OutSyntax>, NoMemory>
-    ensures { IfOk result (Gives out_from text.now) }
+pub(crate) fn out_syntax(alloc: Global, words: &Words) -> Result<Option<OutSyntax>, NoMemory>
+    ensures gives { IfOk result (Gives out_from words.now) }
+    ensures each { All IsTokenWord words.now }
 {
-    match phrases_in(alloc, text)? {
+    match phrases_in(alloc, words)? {
         None => Ok(None),
         Some(phrases) => answer(out_of_phrases(alloc, phrases)),
     }

@@ -1,6 +1,7 @@
--- Private: the passes that a text takes, in a row.
-use Rattle.std.specs.Prelude.{◌≡◌, ℕ, List, Option, None, Some, IfSome}
+-- Private: the passes that words take, in a row.
+use Rattle.std.specs.Prelude.{◌≡◌, List, Option, None, Some, IfSome}
 use Rattle.std.specs.Option.{option_and_then}
+use Rattle.syn_term.specs.Tokens.{Word}
 use Rattle.syn_form.specs.declared.syntax.Lexeme.{Lexeme}
 use Rattle.syn_form.specs.declared.syntax.TermSyntax.{TermSyntax}
 use Rattle.syn_form.specs.declared.syntax.FormSyntax.{FormSyntax}
@@ -9,7 +10,7 @@ use Rattle.syn_parse.specs.declared.items.Item.{Item}
 use Rattle.syn_parse.specs.declared.items.Item.TheVariants as item
 use Rattle.syn_parse.specs.declared.phrase_reader.Phrase.{Phrase}
 use Rattle.syn_parse.specs.declared.term_reader.TermReader.{TermReader}
-use Rattle.syn_parse.specs.Lexemes.{IsWritten}
+use Rattle.syn_parse.specs.Lexemes.{IsWrittenBy}
 use Rattle.syn_parse.specs.inner.PhraseMachine.{phrases_of}
 use Rattle.syn_parse.specs.inner.ItemMachine as items
 use Rattle.syn_parse.specs.inner.Feeding.{fed}
@@ -54,7 +55,7 @@ form_from ls = option_and_then form_of (phrases_of ls)
 abbrev pub out_from : List Lexeme → Option OutSyntax
 out_from ls = option_and_then out_of (phrases_of ls)
 
--- all lexemes of the text give this, and where it is there, the text has lexemes that do
-pub record Gives {X : Type 0} (from : List Lexeme → Option X) (text : List ℕ) (answer : Option X) : Type 0 where
-  pub all : (ls : List Lexeme) → IsWritten text ls → from ls ≡ answer
-  pub some : IfSome answer (λ x. (ls : List Lexeme) × IsWritten text ls × (from ls ≡ Some x))
+-- all lexemes that the words are give this, and where it is there, the words are lexemes that do
+pub record Gives {X : Type 0} (from : List Lexeme → Option X) (words : List Word) (answer : Option X) : Type 0 where
+  pub all : (ls : List Lexeme) → IsWrittenBy words ls → from ls ≡ answer
+  pub some : IfSome answer (λ x. (ls : List Lexeme) × IsWrittenBy words ls × (from ls ≡ Some x))

@@ -1,18 +1,13 @@
 -- Private: how single words are spelled, for the functions that tell lexemes.
-use Rattle.std.specs.Prelude.{◌≡◌, ℕ, ◌<◌, ◌≤◌, ◌^◌, List, ◌++◌, All, codes, decimal, length, map}
-use Rattle.syn_term.specs.declared.tokens.TokenKind.{TokenKind}
+use Rattle.std.specs.Prelude.{◌≡◌, ℕ, ◌<◌, ◌^◌, List, ◌++◌, codes, decimal}
 use Rattle.syn_term.specs.declared.tokens.TokenKind.TheVariants as kind
 use Rattle.syn_term.specs.Tokens.{Word}
-use Rattle.syn_lex.specs.declared.token.Token.{Token}
+use Rattle.syn_lex.specs.Lexing.{word}
 use Rattle.syn_form.specs.declared.syntax.Mark.{Mark}
 use Rattle.syn_form.specs.declared.syntax.Lexeme.{Lexeme}
 use Rattle.syn_form.specs.declared.syntax.Lexeme.TheVariants as lexeme
 use Rattle.syn_form.specs.Grammar.{mark_word, spelling}
 use Rattle.syn_parse.specs.Lexemes.{IsCanonical}
-
--- a word by its kind and its bytes
-abbrev pub word : TokenKind → List ℕ → Word
-word k bytes = record { kind = k; bytes = bytes }
 
 -- the word of a row variable by its digits and by what stands behind them
 abbrev pub row_word : List ℕ → List ℕ → Word
@@ -33,14 +28,6 @@ NoLexeme w = (l : Lexeme) → IsCanonical l → spelling l ≡ w → ⊥
 -- no number of 32 bits has these digits
 abbrev pub NoNumber : List ℕ → Type 0
 NoNumber digits = (n : ℕ) → n < 2 ^ 32 → digits ≡ decimal n → ⊥
-
--- the lexemes are canonical and spelled by these words
-abbrev pub Spell : List Word → List Lexeme → Type 0
-Spell ws ls = All IsCanonical ls × (map spelling ls ≡ ws)
-
--- the token does not end before its beginning, and ends within the line
-abbrev pub IsInside : List ℕ → Token → Type 0
-IsInside line t = (t.from ≤ t.to) × (t.to ≤ length line)
 
 -- a name isn't spelled like the sort of numbers
 abbrev pub NotNat : Lexeme → Type 0

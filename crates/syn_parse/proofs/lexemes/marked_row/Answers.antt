@@ -1,7 +1,8 @@
 use Rattle.std.proofs.Common.{[], ◌∷◌}
 use Rattle.std.proofs.lemmas.Result.{IfOk-weaker}
 use Rattle.syn_term.specs.declared.tokens.TokenKind.TheVariants as kind
-use Rattle.syn_parse.specs.inner.Spelling.{NoNumber, row_word, word}
+use Rattle.syn_lex.specs.Lexing.{word}
+use Rattle.syn_parse.specs.inner.Spelling.{NoNumber, row_word}
 use Rattle.syn_parse.proofs.TokenTexts.{unsplit, split, there_is, bare_word, sorted_word}
 use Rattle.syn_parse.proofs.lexemes.marked_row.Goals as goal
 

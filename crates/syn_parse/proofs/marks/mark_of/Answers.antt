@@ -1,5 +1,5 @@
 use Rattle.std.proofs.Common.{arith}
-use Rattle.syn_parse.specs.inner.Spelling.{word}
+use Rattle.syn_lex.specs.Lexing.{word}
 use Rattle.syn_parse.proofs.MarkTable.{none_spelled}
 use Rattle.syn_parse.proofs.marks.mark_of.Goals as goal
 

@@ -1,7 +1,7 @@
 use Rattle.std.proofs.Common.{◌≡◌, ℕ, ◌<◌, get_or}
 use Rattle.syn_form.specs.declared.syntax.Mark.{Mark}
 use Rattle.syn_form.specs.Grammar.{mark_word}
-use Rattle.syn_parse.specs.inner.Spelling.{word}
+use Rattle.syn_lex.specs.Lexing.{word}
 use Rattle.syn_parse.proofs.MarkTable.{table}
 use Rattle.syn_parse.proofs.marks.mark_of.Given as goal
 

@@ -6,6 +6,6 @@ use Rattle.syn_parse.specs.inner.PhraseMachine as machine
 use Rattle.syn_parse.proofs.Gives.{gives_then}
 use Rattle.syn_parse.proofs.syntaxes.term_syntax.Goals as goal
 
-pub returns-in-Some : goal.returns-in-Some
-returns-in-Some c =
-    IfOk-weaker c.answer.result _ _ (λ o e. gives_then machine.phrases_of term_of c.args.text.now _ o c.in_ok-phrases_in.ensures (e ∙ sym (ap (option_and_then term_of) c.in-Some.is))) (c.answer.ensures _ c.term_of_phrases.ensures)
+pub returns-in-Some-clause-gives : goal.returns-in-Some-clause-gives
+returns-in-Some-clause-gives c =
+    IfOk-weaker c.answer.result _ _ (λ o e. gives_then machine.phrases_of term_of c.args.words.now _ o c.in_ok-phrases_in.ensures.gives (e ∙ sym (ap (option_and_then term_of) c.in-Some.is))) (c.answer.ensures _ c.term_of_phrases.ensures)

@@ -1,0 +1,20 @@
+use Rattle.std.proofs.Common.{arith, subst}
+use Rattle.syn_form.specs.Texts.{expression_limit}
+use Rattle.syn_term.specs.Terms.{bare}
+use Rattle.syn_parse.specs.Parsing.{IsTermSyntaxOfWords, Parses}
+use Rattle.syn_expr.specs.Scopes.{spoken}
+use Rattle.syn_expr.proofs.Readers.{term_reader}
+use Rattle.syn_expr.proofs.Stands.{answered, answered_belongs, unread}
+use Rattle.syn_expr.proofs.read_words.term_in.Goals as goal
+
+pub returns-in-None-clause-answer : goal.returns-in-None-clause-answer
+returns-in-None-clause-answer c = unread (term_reader expression_limit (omega arith) (spoken c.args.scope.now) c.args.words.now c.parse_term_words.ensures.one) _ c.in-None.is c.in_ok-parse_term_words.ensures.answer
+
+pub returns-in-Some-clause-answer : goal.returns-in-Some-clause-answer
+returns-in-Some-clause-answer c = answered (term_reader expression_limit (omega arith) (spoken c.args.scope.now) c.args.words.now c.parse_term_words.ensures.one) bare _ _ c.in-Some.is c.in_ok-parse_term_words.ensures.answer _ c.taken_term-taken.ensures.tree _ c.answer.ensures
+
+pub returns-in-Some-clause-past : goal.returns-in-Some-clause-past
+returns-in-Some-clause-past c = λ past. c.taken_term-taken.ensures.past (past _ (subst (Parses (IsTermSyntaxOfWords c.args.words.now)) c.in-Some.is c.in_ok-parse_term_words.ensures.answer))
+
+pub returns-in-Some-clause-belongs : goal.returns-in-Some-clause-belongs
+returns-in-Some-clause-belongs c = answered_belongs _ _ c.taken_term-taken.ensures.belongs _ c.answer.ensures
