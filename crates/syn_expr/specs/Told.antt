@@ -1,5 +1,5 @@
 -- For public contracts: plain trees whose printed text reads back over any table, since their variables are told apart.
-use Rattle.std.specs.Prelude.{◌≡◌, ◌≤◌, ◌<◌, ◌^◌, Bool, true, false, List, [], All, Contains, length, map}
+use Rattle.std.specs.Prelude.{◌≡◌, ◌≤◌, ◌<◌, ◌^◌, Bool, true, false, List, [], All, Contains, map}
 use Rattle.syn_term.specs.declared.sorts.Var.{Var}
 use Rattle.syn_term.specs.Names.{IsName}
 use Rattle.syn_term.specs.Symbols.{SymbolTable, IsTaken}

@@ -1,5 +1,8 @@
 pub mod FirstLaws
 pub mod SimpleLaws
+pub mod Printing
+pub mod SameTexts
+pub mod LineNames
 pub mod Keywords
 pub mod StepLaws
 pub mod EntryLaws
@@ -10,3 +13,4 @@ pub mod Printing
 pub mod SameTexts
 pub mod NumberLaws
 pub mod MonoLaws
+pub mod ParamLaws

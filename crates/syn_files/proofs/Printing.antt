@@ -1,7 +1,8 @@
 -- What printers put, piece by piece.
-use Rattle.std.proofs.Common.{◌≡◌, ℕ, ◌+◌, ◌<◌, ◌≤◌, List, [], ◌∷◌, ◌++◌, String, string_bytes, length, fold, map, take, get_or, refl, sym, ◌∙◌, ap, subst, arith, append_assoc, append-nil}
+use Rattle.std.proofs.Common.{◌≡◌, ℕ, ◌+◌, All, Option, ◌<◌, ◌≤◌, List, [], ◌∷◌, ◌++◌, String, string_bytes, codes, length, fold, map, take, get_or, refl, sym, ◌∙◌, ap, subst, arith, append_assoc, append-nil}
 use Rattle.std.specs.List.{flat_map}
-use Rattle.std.proofs.lemmas.List.{take_all, take_more, length-take-le}
+use Rattle.std.proofs.lemmas.List.{map-append, take_all, take_more, length-take-le}
+use Rattle.std.proofs.lemmas.List.Elements.{All-more}
 use borrow.Author.Count.{below_more}
 use Rattle.syn_term.specs.declared.sorts.Sort.{Sort}
 use Rattle.syn_term.specs.declared.sorts.Var.{Var}
@@ -9,9 +10,12 @@ use Rattle.syn_term.specs.Symbols.{SymbolTable}
 use Rattle.syn_expr.specs.Scopes.{listed}
 use Rattle.syn_lex.specs.TextLines.{with_feed}
 use Rattle.syn_model.specs.declared.decl.Decl.{Decl}
-use Rattle.syn_files.specs.Printed.{IsPrintedLine, PrintLines, comma_list, named_text, own_after}
+use Rattle.syn_form.specs.Scopes.{Named}
+use Rattle.syn_model.specs.Tables.{table_of}
+use Rattle.syn_model.specs.Theories.{TheoryTree}
+use Rattle.syn_files.specs.Printed.{IsPrintedTheory, PrintLines, comma_list, line_vars, name_by, named_by, named_text, own_after, printed_decl}
 use Rattle.syn_files.specs.TheoryLines.{numbered}
-use Rattle.syn_files.specs.inner.Entries.{PutsLine, PutsLines, entry_text}
+use Rattle.syn_files.specs.inner.Entries.{IsNamedLine, IsNamedTheory, IsSmall, IsSmallMark, NamedLines, PutsLine, PutsLines, entry_text}
 
 -- what was put is this text, by another name
 pub along : (mid t u new : List ℕ) → new ≡ mid ++ t → t ≡ u → new ≡ mid ++ u
@@ -54,7 +58,7 @@ own_more : (own : List ℕ) (ds : List Decl) (d : Decl) → own_of own (ds ++ d 
 own_more own [] d = refl
 own_more own (e ∷ es) d = own_more (own_after own e) es d
 
-lines_more : (all : List Decl) (own : List ℕ) (ds : List Decl) (lines : List (List ℕ)) (d : Decl) (line : List ℕ) → PrintLines all own ds lines → IsPrintedLine all (own_of own ds) d line → PrintLines all own (ds ++ d ∷ []) (lines ++ line ∷ [])
+lines_more : (all : List Decl) (own : List ℕ) (ds : List Decl) (lines : List (List ℕ)) (d : Decl) (line : List ℕ) → NamedLines all own ds lines → IsNamedLine all (own_of own ds) d line → NamedLines all own (ds ++ d ∷ []) (lines ++ line ∷ [])
 lines_more all own [] [] d line h p = (p, tt)
 lines_more all own [] (l ∷ ls) d line h p = absurd h
 lines_more all own (e ∷ es) [] d line h p = absurd h
@@ -72,7 +76,7 @@ lines_begin all old = record { lines = []; printed = tt; put = sym (append-nil o
 pub line_more : (all ds : List Decl) (d : Decl) (own old mid new : List ℕ) → PutsLines all ds old mid → own ≡ own_of [] ds → PutsLine all own d mid new → PutsLines all (ds ++ d ∷ []) old new
 line_more all ds d own old mid new so_far is p = record {
   lines = so_far.lines ++ p.line ∷ [];
-  printed = lines_more all [] ds so_far.lines d p.line so_far.printed (subst (λ (z : List ℕ). IsPrintedLine all z d p.line) is p.printed);
+  printed = lines_more all [] ds so_far.lines d p.line so_far.printed (subst (λ (z : List ℕ). IsNamedLine all z d p.line) is p.printed);
   put = p.put ∙ (ap (λ (z : List ℕ). z ++ with_feed p.line) so_far.put ∙ (append_assoc old (flat_map with_feed so_far.lines) (with_feed p.line) ∙ ap (λ (z : List ℕ). old ++ z) (sym (feeds_more so_far.lines p.line))));
 }
 
@@ -93,3 +97,34 @@ six_put f a s b d g old first second new p q r = r ∙ (ap (λ (z : List ℕ). z
   where
     regroup : ((old ++ f) ++ a) ++ (s ++ b ++ d ++ g) ≡ old ++ (f ++ a ++ s ++ b ++ d ++ g)
     regroup = simp append_assoc refl
+
+-- the lines are those that are printed
+named_lines : (all : List Decl) (own : List ℕ) (ds : List Decl) (lines : List (List ℕ)) → NamedLines all own ds lines → PrintLines all own ds lines
+named_lines all own [] [] h = tt
+named_lines all own [] (l ∷ ls) h = absurd h
+named_lines all own (d ∷ ds) [] h = absurd h
+named_lines all own (d ∷ ds) (l ∷ ls) h = ((h.0.0, h.0.1.0, h.0.2), named_lines all (own_after own d) ds ls h.1)
+
+pub named_theory : (t : TheoryTree) (text : List ℕ) → IsNamedTheory t text → IsPrintedTheory t text
+named_theory t text h = record { lines = h.lines; each = named_lines t.decls [] t.decls h.lines h.each; is = h.is }
+
+-- one variable more has a name with numbers that fit
+pub small_more : (mark : Option ℕ) (vars : List Var) (i : ℕ) (d : Var) → i < length vars → All (λ v. IsSmall mark v.number) (take i vars) → IsSmall mark (get_or vars i d).number → All (λ v. IsSmall mark v.number) (take (i + 1) vars)
+small_more mark vars i d lt so_far here = All-more (λ v. IsSmall mark v.number) vars i d lt so_far here
+
+-- and its name
+pub named_more : (mark : Option ℕ) (vars : List Var) (i : ℕ) (d : Var) (old new : List Named) (text : List ℕ) → i < length vars → old ≡ named_by mark (take i vars) → text ≡ name_by mark (get_or vars i d).number → new ≡ old ++ record { text = text; var = get_or vars i d } ∷ [] → new ≡ named_by mark (take (i + 1) vars)
+named_more mark vars i d old new text lt so_far is put =
+    let v = get_or vars i d in
+    put
+    ∙ (ap (λ (z : List Named). z ++ record { text = text; var = v } ∷ []) so_far
+    ∙ (ap (λ (z : List ℕ). named_by mark (take i vars) ++ record { text = z; var = v } ∷ []) is
+    ∙ (sym (map-append (λ (w : Var). record { text = name_by mark w.number; var = w }) (take i vars) (v ∷ [])) ∙ ap (named_by mark) (sym (take_more vars i d lt)))))
+
+-- the line was put, with a line feed
+pub line_put : (all : List Decl) (own : List ℕ) (d : Decl) (vars : List Var) (table : SymbolTable) (names : List Named) (old mid new : List ℕ) → vars ≡ line_vars d → (mark : Option ℕ) → IsSmallMark all vars mark → names ≡ named_by mark vars → table ≡ table_of all → mid ≡ old ++ printed_decl table own names d → new ≡ mid ++ codes "\n" → PutsLine all own d old new
+line_put all own d vars table names old mid new is mark small called made put feed = record {
+  line = printed_decl table own names d;
+  printed = (mark, subst (λ (z : List Var). IsSmallMark all z mark) is small, ap (λ (z : SymbolTable). printed_decl z own names d) made ∙ ap (λ (z : List Named). printed_decl (table_of all) own z d) (called ∙ ap (named_by mark) is));
+  put = feed ∙ (ap (λ (z : List ℕ). z ++ codes "\n") put ∙ append_assoc old (printed_decl table own names d) (codes "\n"));
+}

@@ -1,17 +1,18 @@
 // The words of a line, read from the left. What is read says what stood at the front, and what is left.
-ghost use Rattle.std.specs.Prelude.{◌≡◌, ◌↔◌, [], None, Some, IfOk, IsTrue, MatchOption, false, if◌then◌else◌};
+ghost use Rattle.std.specs.Prelude.{◌≡◌, ◌↔◌, ◌+◌, ◌++◌, [], ◌∷◌, None, OnOk, Some, IfOk, IsTrue, MatchOption, false, if◌then◌else◌};
 ghost use Rattle.std.specs.Str.{bytes_eq};
 ghost use Rattle.syn_term.specs.Tokens as words;
 ghost use Rattle.syn_term.specs.Tokens.{IsToken};
 ghost use Rattle.syn_form.specs.Elaboration as elaboration;
 ghost use Rattle.syn_lex.specs.Lexing.{word};
+ghost use Rattle.syn_expr.specs.Scopes.{listed};
 ghost use Rattle.syn_files.specs.inner.Firsts as firsts;
 ghost use Rattle.syn_files.specs.inner.Firsts.{got};
 
 use sqlite_items::Items;
 use std::alloc::Global;
 use syn_lex::{TokenKind, Words};
-use syn_term::{NoMemory, Sort, SymId, Symbols, decimal_number, is_reserved};
+use syn_term::{NoMemory, Sort, SymId, Symbols, Var, decimal_number, is_reserved};
 
 /// The first number with more than seven digits.
 const NUMBER_END: u32 = 10_000_000;
@@ -114,6 +115,39 @@ pub(crate) fn is_text(text: &str, other: &str) -> bool
     text == other
 }
 
+/// A name with its sort, as a line has it.
+#[derive(Clone, Copy, Debug)]
+pub(crate) struct GivenName<'a> {
+    pub(crate) name: &'a str,
+    pub(crate) sort: Sort,
+}
+
+/// Puts the name behind the others, as the variable with this number.
+fn push_named(
+    alloc: Global,
+    names: &mut Vec<(String, Var)>,
+    name: &str,
+    var: Var,
+) -> Result<(), NoMemory>
+    ensures { OnOk result (listed names.new.items ≡ listed names.old.items ++ firsts.named name.now var ∷ []) }
+{
+    let text = String::from_str(alloc, name)?;
+    match names.push((text, var)) {
+        Ok(()) => Ok(()),
+        Err(_) => Err(NoMemory),
+    }
+}
+
+/// The number behind this one. The one error is that there is none, which counts as want of memory.
+fn next_number(number: u32) -> Result<u32, NoMemory>
+    ensures { IfOk result (λ n. n ≡ number + 1) }
+{
+    match number.checked_add(1) {
+        None => Err(NoMemory),
+        Some(next) => Ok(next),
+    }
+}
+
 impl<'a> Cursor<'a> {
     /// Whether all words are read.
     pub(crate) fn is_empty(&self) -> bool
@@ -203,6 +237,67 @@ impl<'a> Cursor<'a> {
             None => None,
             Some(name) => direction_of(name),
         }
+    }
+
+    /// The name at the front with the sort behind its colon.
+    pub(crate) fn given(&mut self, syms: &Symbols) -> Option<GivenName<'a>>
+        ensures { MatchOption result (firsts.param_first syms.now self.old.left ≡ None) (λ g. firsts.param_first syms.now self.old.left ≡ Some (got (firsts.param g.name.now g.sort) self.new.left)) }
+    {
+        match self.name() {
+            None => None,
+            Some(name) => {
+                if !self.sign(b":") {
+                    return None;
+                }
+                match self.sort(syms) {
+                    None => None,
+                    Some(sort) => Some(GivenName { name, sort }),
+                }
+            }
+        }
+    }
+
+    /// The names with their sorts in brackets at the front, with commas between, as variables numbered
+    /// from 1. The one error is want of memory.
+    pub(crate) fn params(
+        &mut self,
+        alloc: Global,
+        syms: &Symbols,
+    ) -> Result<Option<Vec<(String, Var)>>, NoMemory>
+        ensures { IfOk result (λ o. MatchOption o (firsts.params_first syms.now self.old.left ≡ None) (λ ps. firsts.params_first syms.now self.old.left ≡ Some (got (listed ps.items) self.new.left))) }
+    {
+        if self.sign(b"(") {
+            self.params_on(alloc, syms)
+        } else {
+            Ok(None)
+        }
+    }
+
+    /// The same behind the opening bracket.
+    fn params_on(
+        &mut self,
+        alloc: Global,
+        syms: &Symbols,
+    ) -> Result<Option<Vec<(String, Var)>>, NoMemory>
+        ensures { IfOk result (λ o. MatchOption o (firsts.params_on syms.now 1 None self.old.left ≡ None) (λ ps. firsts.params_on syms.now 1 None self.old.left ≡ Some (got (listed ps.items) self.new.left))) }
+    {
+        let mut names = Vec::new(alloc);
+        let mut number = 1;
+        while let Some(given) = self.given(syms) {
+            let var = Var {
+                number,
+                sort: given.sort,
+            };
+            push_named(alloc, &mut names, given.name, var)?;
+            number = next_number(number)?;
+            if self.sign(b")") {
+                return Ok(Some(names));
+            }
+            if !self.sign(b",") {
+                return Ok(None);
+            }
+        }
+        Ok(None)
     }
 
     /// The sorts in brackets at the front, with commas between. The one error is want of memory.

@@ -1,10 +1,11 @@
 // The names that the variables of a printed line get: `x` and the number, or, where the theory declares
 // such a name, `x`, a mark, `_` and the number, with the least mark by which no name is declared.
-ghost use Rattle.std.specs.Prelude.{◌≡◌, ◌↔◌, ◌++◌, ◌∷◌, [], ◌<◌, ◌≤◌, ℕ, Option, Some, IfOk, OnOk, IsTrue, string_bytes};
+ghost use Rattle.std.specs.Prelude.{◌≡◌, ◌↔◌, ◌++◌, ◌∷◌, [], ◌<◌, ◌≤◌, ℕ, Option, Some, All, IfOk, OnOk, IsTrue, string_bytes};
 ghost use Rattle.syn_expr.specs.Scopes.{listed};
 ghost use Rattle.syn_form.specs.Scopes.{Named};
 ghost use Rattle.syn_model.specs.Tables.{IsDeclared};
 ghost use Rattle.syn_files.specs.Printed.{AreFree, IsMark, name_by, named_by};
+ghost use Rattle.syn_files.specs.inner.Entries.{IsSmall, IsSmallMark};
 
 use syn_expr::{put, put_number};
 use std::alloc::Global;
@@ -13,7 +14,8 @@ use syn_term::{NoMemory, Var};
 
 /// The name of the variable with this number.
 fn name_by(alloc: Global, mark: Option<u32>, number: u32) -> Result<String, NoMemory>
-    ensures { IfOk result (λ name. string_bytes name ≡ name_by mark number) }
+    ensures text { IfOk result (λ name. string_bytes name ≡ name_by mark number) }
+    ensures small { IfOk result (λ name. IsSmall mark number) }
 {
     let mut name = String::new(alloc);
     put(&mut name, "x")?;
@@ -90,7 +92,8 @@ fn push_named(names: &mut Vec<(String, Var)>, name: String, var: Var) -> Result<
 
 /// The variables with their names.
 fn named_by(alloc: Global, mark: Option<u32>, vars: &[Var]) -> Result<Vec<(String, Var)>, NoMemory>
-    ensures { IfOk result (λ names. listed names.items ≡ named_by mark vars.now) }
+    ensures names { IfOk result (λ names. listed names.items ≡ named_by mark vars.now) }
+    ensures small { IfOk result (λ names. All (λ v. IsSmall mark v.number) vars.now) }
 {
     let mut names = Vec::new(alloc);
     for i in 0..vars.len() {
@@ -106,7 +109,7 @@ pub(crate) fn line_names(
     theory: &Theory,
     vars: &[Var],
 ) -> Result<Vec<(String, Var)>, NoMemory>
-    ensures { IfOk result (λ names. (mark : Option ℕ) × IsMark (IsDeclared (theory.now).decls) vars.now mark × (listed names.items ≡ named_by mark vars.now)) }
+    ensures { IfOk result (λ names. (mark : Option ℕ) × IsSmallMark (theory.now).decls vars.now mark × (listed names.items ≡ named_by mark vars.now)) }
 {
     let mark = mark_for(alloc, theory, vars)?;
     named_by(alloc, mark, vars)

@@ -4,7 +4,7 @@ ghost use Rattle.std.specs.List.{flat_map};
 ghost use Rattle.syn_expr.specs.Scopes.{listed};
 ghost use Rattle.syn_form.specs.Trees.{term_vars};
 ghost use Rattle.syn_files.specs.Printed.{IsPrintedTheory, line_vars, own_after, printed_decl};
-ghost use Rattle.syn_files.specs.inner.Entries.{PutsLine, PutsLines};
+ghost use Rattle.syn_files.specs.inner.Entries.{IsNamedTheory, PutsLine, PutsLines};
 
 use crate::naming::line_names;
 use crate::print_decls::{
@@ -134,7 +134,7 @@ fn put_lines(alloc: Global, out: &mut String, theory: &Theory) -> Result<(), NoM
 
 /// The text of the theory. The one error is want of memory.
 fn theory_text(alloc: Global, theory: &Theory) -> Result<String, NoMemory>
-    ensures { IfOk result (λ text. IsPrintedTheory theory.now (string_bytes text)) }
+    ensures { IfOk result (λ text. IsNamedTheory theory.now (string_bytes text)) }
 {
     let mut out = String::new(alloc);
     put(&mut out, "theory ")?;
@@ -142,4 +142,11 @@ fn theory_text(alloc: Global, theory: &Theory) -> Result<String, NoMemory>
     put(&mut out, "\n")?;
     put_lines(alloc, &mut out, theory)?;
     Ok(out)
+}
+
+/// The one text of the theory. The one error is want of memory.
+pub fn print_theory(alloc: Global, theory: &Theory) -> Result<String, NoMemory>
+    ensures text { IfOk result (λ text. IsPrintedTheory theory.now (string_bytes text)) }
+{
+    theory_text(alloc, theory)
 }

@@ -1,5 +1,5 @@
 use Rattle.syn_files.proofs.Printing.{lines_go}
-use Rattle.syn_files.proofs.print_theory.put_lines.Goals as goal
+use Rattle.syn_files.proofs.print_lines.put_lines.Goals as goal
 
 pub loop-i-preserved : goal.loop-i-preserved
 loop-i-preserved c =

@@ -3,7 +3,7 @@ use denote.Shadow.{shadow}
 use denote.Text.{Utf8}
 use Rattle.syn_files.specs.inner.Entries.{PutsLines}
 use Rattle.syn_files.proofs.Printing.{own_of}
-use Rattle.syn_files.proofs.print_theory.put_lines.Given as goal
+use Rattle.syn_files.proofs.print_lines.put_lines.Given as goal
 
 -- the declarations so far have their lines, and the last heading among them has this name
 abbrev pub invariant-loop-i : goal.invariant-loop-i
