@@ -8,12 +8,10 @@ mod decl_lines;
 mod mono_lines;
 mod naming;
 mod print_decls;
-mod print_theory;
 mod print_lines;
 mod simple_lines;
 mod theory_text;
 mod title;
 
-pub use print_theory::print_theory;
 pub use print_lines::print_theory;
 pub use theory_text::read_theory;
