@@ -12,8 +12,8 @@ ghost use Rattle.syn_expr.specs.Scopes.{listed};
 ghost use Rattle.syn_expr.specs.inner.Places.{names_at, spoken_at};
 
 use crate::names::{Inside, NamedVars};
-use syn_form::{BinderSyntax, HeadName};
-use syn_term::{Sort, SymId, Symbols, Text, Var, is_reserved};
+use syn_form::{BinderSyntax, HeadName, NameText};
+use syn_term::{Sort, SymId, Symbols, Var, is_reserved};
 
 /// The variable with the name, the innermost where several have it.
 pub(crate) fn var_named(names: &NamedVars, name: &str) -> Option<Var>
@@ -113,7 +113,7 @@ pub(crate) fn head_var(place: &Inside, head: &HeadName) -> Option<Var>
 }
 
 /// The sort that is written behind a row variable, `nat` where none is.
-pub(crate) fn written_sort(syms: &Symbols, sort: &Option<Text>) -> Option<Sort>
+pub(crate) fn written_sort(syms: &Symbols, sort: &Option<NameText>) -> Option<Sort>
     ensures { result ≡ elaboration.written_sort syms.now sort.now }
 {
     match sort {

@@ -17,7 +17,7 @@ const NAME_WINDOW: usize = 68;
 const MAX_DIGITS: usize = 7;
 
 /// The byte there, or 0 past the end.
-pub(crate) fn byte_at(rest: &[u8], k: usize) -> u8
+pub fn byte_at(rest: &[u8], k: usize) -> u8
     ensures { result ≡ get_or rest.now k 0 }
 {
     match rest.get(k) {

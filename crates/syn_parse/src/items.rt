@@ -5,9 +5,9 @@ use syn_form::{BinderSyntax, Mark, Quantifier, TermSyntax};
 
 /// A term, an equality, a quantifier with its binders, or a mark.
 #[derive(Drop)]
-pub(crate) enum Item {
-    Term(TermSyntax),
-    Equal(TermSyntax, TermSyntax),
-    Quantifier(Quantifier, Items<BinderSyntax>),
+pub(crate) enum Item<'a> {
+    Term(TermSyntax<'a>),
+    Equal(TermSyntax<'a>, TermSyntax<'a>),
+    Quantifier(Quantifier, Items<BinderSyntax<'a>>),
     Fixed(Mark),
 }
