@@ -101,13 +101,14 @@ pub struct BinderSyntax<'a> {
     pub sort: NameText<'a>,
 }
 
-/// A formula as it is written, without its brackets.
+/// A formula as it is written, without its brackets. The sides of an equality stand in boxes, so that formulas
+/// are small where they are moved.
 #[derive(Drop)]
 pub enum FormSyntax<'a> {
     True,
     False,
     Atom(NameText<'a>, Items<TermSyntax<'a>>),
-    Equal(TermSyntax<'a>, TermSyntax<'a>),
+    Equal(Boxed<TermSyntax<'a>>, Boxed<TermSyntax<'a>>),
     Not(Boxed<FormSyntax<'a>>),
     And(Items<FormSyntax<'a>>),
     Or(Items<FormSyntax<'a>>),

@@ -9,3 +9,4 @@ pub mod Comments
 pub mod ByGrammar
 pub mod NotSpelled
 mod LineWords
+mod AsciiNames

@@ -9,6 +9,7 @@ use Rattle.syn_form.specs.declared.syntax.BinderSyntax.{BinderSyntax}
 use Rattle.syn_parse.specs.declared.items.Item.{Item}
 use Rattle.syn_parse.specs.declared.item_reader.ItemReader.{ItemReader}
 use Rattle.syn_parse.specs.declared.phrase_reader.Phrase.{Phrase}
+use Rattle.syn_parse.specs.declared.phrase_reader.Phrase.TheVariants as phrase
 use Rattle.syn_parse.specs.declared.phrase_reader.Binding.{Binding}
 use Rattle.syn_parse.specs.declared.phrase_reader.BinderStage.{BinderStage}
 use Rattle.syn_parse.specs.declared.phrase_reader.BinderStage.TheVariants as stage
@@ -17,7 +18,7 @@ use Rattle.syn_parse.specs.declared.stop.Stop.{Stop}
 use Rattle.syn_parse.specs.declared.stop.Stop.TheVariants as stop
 use Rattle.syn_parse.specs.inner.Feeding.{Keeps, fed, told}
 use Rattle.syn_parse.specs.inner.Leads.{Leads}
-use Rattle.syn_parse.specs.inner.PhraseMachine.{outside, name_next, colon_next, sort_of, holds, with_binder, sort_next, stop_next, at, step_at, step, run, ended}
+use Rattle.syn_parse.specs.inner.PhraseMachine.{closed, word, outside, name_next, colon_next, sort_of, holds, with_binder, sort_next, stop_next, at, step_at, step, run, ended}
 
 abbrev reader : List Phrase → Option Binding → PhraseReader
 reader done pending = record { done = done; pending = pending }
@@ -133,6 +134,14 @@ module _ {S A : Type 0} (takes : S → Item → Option S) (s t : S) (r q : ItemR
       by (Ok a) h rest = before ∙ (all_kept (Ok a) x.done h (option_and_then ended (run more (reader [] x.pending))) ∙ ap (λ (z : List Phrase). told takes t q (reader z x.pending) more) (sym rest))
       by (Err stop.Misplaced) h rest = before ∙ all_kept (Err stop.Misplaced) x.done h (option_and_then ended (run more (reader [] x.pending)))
       by (Err stop.NoMemory) h rest = tt
+
+  -- a word that is a phrase by itself goes on at once
+  pub plain_fed : (p : PhraseReader) (l : Lexeme) (more : List Lexeme) (result : Result A Stop) → p ≡ closed [] → step p l ≡ Some (word [] l) → ((ms : List Phrase) → Keeps result (fed takes s r (phrase.Word l ∷ ms)) (fed takes t q ms)) → Keeps result (told takes s r p (l ∷ more)) (told takes t q p more)
+  plain_fed p l more result is one h = subst (λ (z : PhraseReader). Keeps result (told takes s r p (l ∷ more)) (told takes t q z more)) (sym is) (lexeme_fed p (word [] l) l more result [] (sym one) h (none_left result))
+    where
+      none_left : (z : Result A Stop) → OnOk z (◌≡◌ {A = List Phrase} [] [])
+      none_left (Ok a) = refl
+      none_left (Err e) = tt
 
   -- the end: the phrases that are left have gone on
   module _ (p : PhraseReader) (one : Some p.done ≡ ended p) where

@@ -87,7 +87,7 @@ impl<'a> Frame<'a> {
 
 /// Whether nothing but `not`s was read before the operand, so that the form is just the operand.
 #[tactic(auto, using(crate::proofs::FormFrames::bare_done))]
-fn is_bare<'a>(frame: &Frame<'a>) -> bool
+pub(crate) fn is_bare<'a>(frame: &Frame<'a>) -> bool
     ensures { IsTrue result → (u : Tall) → machine.form_done frame.now u ≡ Some u }
 {
     if !frame.prefixes.is_empty() {
@@ -314,10 +314,6 @@ fn sides_done<'a>(
 pub(crate) fn form_done<'a>(alloc: Global, frame: Frame<'a>, u: Tall<'a>) -> Result<Tall<'a>, Stop>
     ensures { Makes result (machine.form_done frame.entry u.entry) }
 {
-    if is_bare(&frame) {
-        drop(frame);
-        return Ok(u);
-    }
     let Frame {
         prefixes,
         nots: _,

@@ -4,7 +4,7 @@ ghost use Rattle.syn_parse.specs.inner.FormMachine as machine;
 ghost use Rattle.syn_parse.specs.inner.Leads.{Leads, Makes};
 
 use crate::form_frames::{
-    Frame, Members, Prefix, Tall, chain_and, form_done, imp_done, negated, or_done,
+    Frame, Members, Prefix, Tall, chain_and, form_done, imp_done, is_bare, negated, or_done,
 };
 use crate::items::Item;
 use crate::sink::Sink;
@@ -73,14 +73,25 @@ impl<'a> FormReader<'a> {
         drop(self.last.take());
     }
 
+    /// The operand is there.
+    fn stand(&mut self, u: Tall<'a>)
+        ensures { self.new ≡ machine.has self.old.frame self.old.outer u.entry }
+    {
+        self.first = false;
+        drop(self.last.replace(u));
+    }
+
     /// An operand comes: the pending `not`s are put round it.
     fn got(&mut self, alloc: Global, u: Tall<'a>) -> Result<(), Stop>
         ensures { Leads result self.new (machine.got self.old.frame self.old.outer u.entry) }
     {
+        if self.frame.nots == 0 {
+            self.stand(u);
+            return Ok(());
+        }
         let nots = mem::replace(&mut self.frame.nots, 0);
         let v = negated(alloc, nots, u)?;
-        self.first = false;
-        drop(self.last.replace(v));
+        self.stand(v);
         Ok(())
     }
 
@@ -216,6 +227,10 @@ impl<'a> FormReader<'a> {
         match self.outer.pop() {
             Some(around) => {
                 let frame = mem::replace(&mut self.frame, around);
+                if is_bare(&frame) {
+                    drop(frame);
+                    return self.got(alloc, u);
+                }
                 let v = form_done(alloc, frame, u)?;
                 self.got(alloc, v)
             }

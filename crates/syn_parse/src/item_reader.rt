@@ -11,7 +11,7 @@ use crate::items::Item;
 use crate::limits::MAX_OPEN;
 use crate::phrase_reader::Phrase;
 use crate::sink::Sink;
-use crate::stack::{Stack, first};
+use crate::stack::{Stack, boxes, first};
 use crate::stop::Stop;
 use sqlite_items::Items;
 use std::alloc::{AllocError, Global};
@@ -49,12 +49,19 @@ fn head_of<'a>(term: TermSyntax<'a>) -> Result<HeadName<'a>, Stop>
 }
 
 /// The item that a term ends: itself, or an equality.
-fn item_of<'a>(left: Option<TermSyntax<'a>>, term: TermSyntax<'a>) -> Item<'a>
-    ensures { result ≡ machine.item_of left.entry term.entry }
+fn item_of<'a>(
+    alloc: Global,
+    left: Option<TermSyntax<'a>>,
+    term: TermSyntax<'a>,
+) -> Result<Item<'a>, AllocError>
+    ensures { IfOk result (λ item. item ≡ machine.item_of left.entry term.entry) }
 {
     match left {
-        None => Item::Term(term),
-        Some(left) => Item::Equal(left, term),
+        None => Ok(Item::Term(term)),
+        Some(left) => {
+            let (left, right) = boxes(alloc, left, term)?;
+            Ok(Item::Equal(left, right))
+        }
     }
 }
 
@@ -93,12 +100,12 @@ impl<'a> ItemReader<'a> {
     }
 
     /// The last term, or the equality that it ends, becomes an item.
-    fn flush(&mut self) -> Result<(), Stop>
+    fn flush(&mut self, alloc: Global) -> Result<(), Stop>
         ensures { Leads result self.new (machine.flush self.old) }
     {
         match self.last.take() {
             Some(term) => {
-                let item = item_of(self.left.take(), term);
+                let item = item_of(alloc, self.left.take(), term)?;
                 self.items.push(item)?;
                 Ok(())
             }
@@ -110,10 +117,10 @@ impl<'a> ItemReader<'a> {
     }
 
     /// An item that ends the term before it.
-    fn put(&mut self, item: Item<'a>) -> Result<(), Stop>
+    fn put(&mut self, alloc: Global, item: Item<'a>) -> Result<(), Stop>
         ensures { Leads result self.new (machine.with_item self.old item.entry) }
     {
-        match self.flush() {
+        match self.flush(alloc) {
             Ok(()) => {
                 self.items.push(item)?;
                 Ok(())
@@ -145,7 +152,7 @@ impl<'a> ItemReader<'a> {
         ensures { Leads result self.new (machine.open_outside self.old) }
     {
         match self.last.take() {
-            None => self.put(Item::Fixed(Mark::Open)),
+            None => self.put(alloc, Item::Fixed(Mark::Open)),
             Some(term) => self.open_call(alloc, term),
         }
     }
@@ -173,7 +180,7 @@ impl<'a> ItemReader<'a> {
         match mark {
             Mark::Open => self.open_outside(alloc),
             Mark::Equals => self.equals(),
-            _ => self.put(Item::Fixed(mark)),
+            _ => self.put(alloc, Item::Fixed(mark)),
         }
     }
 
@@ -234,6 +241,9 @@ impl<'a> ItemReader<'a> {
     fn mark_next(&mut self, alloc: Global, mark: Mark) -> Result<(), Stop>
         ensures { Leads result self.new (machine.mark_next self.old mark) }
     {
+        if self.calls.is_empty() {
+            return self.mark_outside(alloc, mark);
+        }
         let Some(call) = self.calls.pop() else {
             return self.mark_outside(alloc, mark);
         };
@@ -261,13 +271,14 @@ impl<'a> ItemReader<'a> {
     /// A quantifier comes; inside a call there is none.
     fn quantifier_next(
         &mut self,
+        alloc: Global,
         quantifier: Quantifier,
         binders: Items<BinderSyntax<'a>>,
     ) -> Result<(), Stop>
         ensures { Leads result self.new (machine.quantifier_next self.old quantifier binders.entry) }
     {
         match self.calls.pop() {
-            None => self.put(Item::Quantifier(quantifier, binders)),
+            None => self.put(alloc, Item::Quantifier(quantifier, binders)),
             Some(call) => {
                 drop(call);
                 drop(binders);
@@ -282,16 +293,18 @@ impl<'a> ItemReader<'a> {
     {
         match phrase {
             Phrase::Word(lexeme) => self.word_next(alloc, lexeme),
-            Phrase::Quantifier(quantifier, binders) => self.quantifier_next(quantifier, binders),
+            Phrase::Quantifier(quantifier, binders) => {
+                self.quantifier_next(alloc, quantifier, binders)
+            }
         }
     }
 
     /// The end, where no call is open: the last term becomes an item.
-    fn finish(&mut self) -> Result<(), Stop>
+    fn finish(&mut self, alloc: Global) -> Result<(), Stop>
         ensures { Leads result self.new (machine.finished self.old) }
     {
         match self.calls.pop() {
-            None => self.flush(),
+            None => self.flush(alloc),
             Some(call) => {
                 drop(call);
                 Err(Stop::Misplaced)
@@ -320,7 +333,7 @@ impl<'a> ItemReader<'a> {
     ) -> Result<(), Stop>
         ensures { Leads result sink.new (fed S.takes sink.old self.old []) }
     {
-        self.finish()?;
+        self.finish(alloc)?;
         pass_on(alloc, &mut self.items, sink)
     }
 }

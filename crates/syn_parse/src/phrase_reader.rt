@@ -1,6 +1,6 @@
 // The first pass over words puts each quantifier with its binders together into one
 // phrase; all other words stay as they are.
-ghost use Rattle.std.specs.Prelude.{◌≡◌, ◌++◌, [], ◌∷◌, Some, IfOk, OnOk};
+ghost use Rattle.std.specs.Prelude.{◌≡◌, ◌++◌, [], ◌∷◌, Some, IsTrue, IfOk, OnOk};
 ghost use Rattle.syn_parse.specs.inner.Leads.{Leads, Makes};
 ghost use Rattle.syn_parse.specs.inner.PhraseMachine as machine;
 
@@ -244,6 +244,16 @@ impl<'a> PhraseReader<'a> {
                 Ok(())
             }
         }
+    }
+
+    /// Whether the word is a phrase by itself, and the only one that is then ready.
+    pub(crate) fn is_plain(&self, lexeme: &Lexeme<'a>) -> bool
+        ensures { IsTrue result → (self.now ≡ machine.closed []) × (machine.step self.now lexeme.now ≡ Some (machine.word [] lexeme.now)) }
+    {
+        if self.pending.is_some() || !self.done.is_empty() {
+            return false;
+        }
+        !matches!(lexeme, Lexeme::Fixed(Mark::ForAll | Mark::ForSome))
     }
 
     /// The end, where no quantifier is open.

@@ -1,5 +1,5 @@
 // Stacks, and what serves values of any type.
-ghost use Rattle.std.specs.Prelude.{◌≡◌, [], ◌∷◌, OnOk, IfOk, MatchOption};
+ghost use Rattle.std.specs.Prelude.{◌≡◌, ◌↔◌, [], ◌∷◌, IsTrue, OnOk, IfOk, MatchOption};
 
 use sqlite_items::{Boxed, Items};
 use std::alloc::{AllocError, Global};
@@ -36,6 +36,12 @@ impl<T: Drop> Stack<T> {
     {
         self.inner.push(item)?;
         Ok(())
+    }
+
+    pub(crate) fn is_empty(&self) -> bool
+        ensures { IsTrue result ↔ (self.now ≡ []) }
+    {
+        self.inner.is_empty()
     }
 
     pub(crate) fn pop(&mut self) -> Option<T>

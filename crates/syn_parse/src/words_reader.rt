@@ -67,6 +67,9 @@ fn pass_lexeme<'a, S: Sink<Item<'a>>>(
 ) -> Result<(), Stop>
     ensures { (more : List Lexeme) → Keeps result (told S.takes sink.old items.old phrases.old (lexeme.entry ∷ more)) (told S.takes sink.new items.new phrases.new more) }
 {
+    if phrases.is_plain(&lexeme) {
+        return items.pass(alloc, Phrase::Word(lexeme), sink);
+    }
     phrases.step(alloc, lexeme)?;
     pass_phrases(alloc, &mut phrases.done, items, sink)
 }
