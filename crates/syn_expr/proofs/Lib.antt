@@ -39,3 +39,4 @@ pub mod Spending
 pub mod Told
 pub mod ToldForms
 pub mod ToldBack
+pub mod ReservedFronts

@@ -19,6 +19,7 @@ mod print_qforms;
 mod print_terms;
 mod read;
 mod read_words;
+mod reserved;
 mod scope;
 mod text;
 mod unquantified;

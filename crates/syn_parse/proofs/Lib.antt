@@ -5,6 +5,7 @@ mod FormComplete
 mod FormSound
 mod FormRuns
 pub mod MarkTable
+pub mod MarkFronts
 pub mod TokenTexts
 pub mod TokenLists
 mod DigitRuns
@@ -26,5 +27,8 @@ mod ItemsWritten
 mod ReadingsWritten
 mod Passed
 pub mod Gives
+pub mod PhrasesFed
+pub mod WordsRead
+pub mod LastPass
 pub mod Parses
 pub mod TextParses
