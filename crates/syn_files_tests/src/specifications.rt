@@ -96,7 +96,7 @@ fn walk<R: Abort>(rt: &R, alloc: Global, theory: &Theory, before: &str, table: &
         let mut text = String::from_str(alloc, before)?;
         put_lines(&mut text, case.trim_end_matches(' '))?;
         let line = wanted(want);
-        let expected = if line == 0 { 0 } else { line + lines };
+        let expected = if line == 0 { 0 } else { line.saturating_add(lines) };
         let got = bad_spec_line(alloc, theory, text.as_bytes())?;
         assert!(rt; got == expected, "at {case}");
     }

@@ -186,7 +186,7 @@ fn walk<R: Abort>(rt: &R, alloc: Global, table: &str) -> Result<(), Fail> {
         let mut text = String::from_str(alloc, BASE)?;
         put_lines(&mut text, case.trim_end_matches(' '))?;
         let line = wanted(want);
-        let expected = if line == 0 { 0 } else { line + count(BASE) };
+        let expected = if line == 0 { 0 } else { line.saturating_add(count(BASE)) };
         let got = bad_theory_line(alloc, text.as_bytes())?;
         assert!(rt; got == expected, "at {case}");
     }
