@@ -92,9 +92,9 @@ ensures z = a // nothing p => 2";
 fn walk<R: Abort>(rt: &R, alloc: Global, theory: &Theory, before: &str, table: &str) -> Result<(), Fail> {
     let lines = before.lines().count() as u64;
     for line in table.split('\n') {
-        let (case, want) = cut(line, "=> ");
+        let (case, want) = cut(line, " => ");
         let mut text = String::from_str(alloc, before)?;
-        put_lines(&mut text, case.trim_end_matches(' '))?;
+        put_lines(&mut text, case)?;
         let line = wanted(want);
         let expected = if line == 0 { 0 } else { line.saturating_add(lines) };
         let got = bad_spec_line(alloc, theory, text.as_bytes())?;

@@ -9,7 +9,7 @@ use syn_cases::cut;
 const BLANKS: &str = "\
  => yes
 # a comment => yes
- // \t# one\r // axiom a : le ( 0 , 0 ) # behind // => yes
+ // \t# one\r // axiom a : le ( 0 , 0 ) # behind => yes
 \taxiom\ta:\tle(0,0)\r => yes
 axiom a: le(0, 0) @ => 1
 axiom a: le(0, 007) => 1
@@ -182,9 +182,9 @@ fn count(text: &str) -> u64 {
 /// Each case of the table, behind the lines of the theory.
 fn walk<R: Abort>(rt: &R, alloc: Global, table: &str) -> Result<(), Fail> {
     for line in table.split('\n') {
-        let (case, want) = cut(line, "=> ");
+        let (case, want) = cut(line, " => ");
         let mut text = String::from_str(alloc, BASE)?;
-        put_lines(&mut text, case.trim_end_matches(' '))?;
+        put_lines(&mut text, case)?;
         let line = wanted(want);
         let expected = if line == 0 { 0 } else { line.saturating_add(count(BASE)) };
         let got = bad_theory_line(alloc, text.as_bytes())?;
