@@ -4,6 +4,7 @@ pub mod Keywords
 pub mod StepLaws
 pub mod EntryLaws
 pub mod AxiomLaws
+pub mod OrderLaws
 pub mod WriteOnce
 pub mod LoopLaws
 pub mod NumberLaws
