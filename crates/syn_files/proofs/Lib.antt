@@ -7,6 +7,7 @@ pub mod Keywords
 pub mod StepLaws
 pub mod EntryLaws
 pub mod AxiomLaws
+pub mod OrderLaws
 pub mod WriteOnce
 pub mod LoopLaws
 pub mod Printing

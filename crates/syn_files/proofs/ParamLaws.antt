@@ -113,14 +113,15 @@ listed_tail q (r ∷ rs) = ap (λ (z : List Word). q ++ comma ∷ z) (listed_tai
 abbrev close : Word
 close = sign_word (codes ")")
 
+-- these names, numbered from here on
+abbrev pub numbered_names : ℕ → List Param → List Named
+numbered_names n [] = []
+numbered_names n (p ∷ ps) = numbered_name n p ∷ numbered_names (n + 1) ps
+
 module _ (table : SymbolTable) where
   -- a name that is written is read
   param_reads : (p : Param) (w : Word) (rest : List Word) → WritesSort table p.sort w → param_of table (name_word p.name) (sign_word (codes ":")) w ≡ Some p
   param_reads p w rest h = ap (option_map (param p.name)) (ap (λ (z : Word). name_of z >>= sort_named table) h.2 ∙ h.1)
-
-  abbrev numbered_names : ℕ → List Param → List Named
-  numbered_names n [] = []
-  numbered_names n (p ∷ ps) = numbered_name n p ∷ numbered_names (n + 1) ps
 
   on_params : (qs : List (List Word)) (n : ℕ) (v : Named) (ps : List Param) (rest : List Word) → WriteParameters table ps qs → params_on table n (Some v) (tail_listed qs ++ close ∷ rest) ≡ Some (got (v ∷ numbered_names n ps) rest)
   on_params [] n v [] rest h = refl
