@@ -10,8 +10,6 @@ pub mod AxiomLaws
 pub mod OrderLaws
 pub mod WriteOnce
 pub mod LoopLaws
-pub mod Printing
-pub mod SameTexts
 pub mod NumberLaws
 pub mod MonoLaws
 pub mod ParamLaws

@@ -4,6 +4,7 @@ ghost use Rattle.syn_term.specs.Names.{IsName};
 ghost use Rattle.syn_form.specs.Writing.{CanWriteTable};
 ghost use Rattle.syn_model.specs.Declaring.{Asks, ComesInTime, IsTheory, MayDeclare, is_clause};
 ghost use Rattle.syn_model.specs.Headings as headings;
+ghost use Rattle.syn_model.specs.Heads.{IsNewName};
 ghost use Rattle.syn_model.specs.Theories.{MayBring, Steps, bare_theory, with_decl};
 ghost use Rattle.syn_model.specs.Tables.{IsDeclared, axiom_names, monos_of, other_names, table_of};
 ghost use Rattle.syn_model.specs.inner.Indexing.{IsNewIn, row_key};
@@ -16,7 +17,7 @@ use crate::decl::Decl;
 use crate::headings::is_whole;
 use crate::index::{Index, indexed};
 use crate::may_follow::may_follow;
-use crate::naming::is_declared;
+use crate::naming::{is_declared, is_new_name};
 use sqlite_items::Items;
 use std::alloc::Global;
 use std::marker::Model;
@@ -180,6 +181,13 @@ impl Theory {
         ensures { IsTrue result ↔ Contains (map row_key (monos_of (self.now).decls)) (row_key mono.now) }
     {
         self.index.has_like(mono)
+    }
+
+    /// Whether the text is a name that nothing declared has.
+    pub fn is_new(&self, name: &str) -> bool
+        ensures { IsTrue result ↔ IsNewName (self.now).decls name.now }
+    {
+        is_new_name(self, name)
     }
 
     /// Whether something that is declared has the text as its name.
