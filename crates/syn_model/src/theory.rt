@@ -1,5 +1,6 @@
 // A theory: its declarations, and the table of symbols that they make.
 ghost use Rattle.std.specs.Prelude.{◌≡◌, ◌↔◌, ◌++◌, [], ◌∷◌, Bool, Contains, Err, IfOk, IsTrue, OnErr, OnOk, map};
+ghost use Rattle.std.specs.Option.{option_copied};
 ghost use Rattle.syn_term.specs.Names.{IsName};
 ghost use Rattle.syn_form.specs.Writing.{CanWriteTable};
 ghost use Rattle.syn_model.specs.Declaring.{Asks, ComesInTime, IsTheory, MayDeclare, is_clause};
@@ -14,7 +15,7 @@ ghost use Rattle.syn_model.specs.declared.theory.DeclError.TheVariants as error;
 use crate::bringing::settle;
 use crate::copying::decls_again;
 use crate::decl::Decl;
-use crate::headings::is_whole;
+use crate::headings::{heading_of, is_whole};
 use crate::index::{Index, indexed};
 use crate::may_follow::may_follow;
 use crate::naming::{is_declared, is_new_name};
@@ -181,6 +182,13 @@ impl Theory {
         ensures { IsTrue result ↔ Contains (map row_key (monos_of (self.now).decls)) (row_key mono.now) }
     {
         self.index.has_like(mono)
+    }
+
+    /// The declaration to which a clause would belong: the last one that is no clause.
+    pub fn last_heading(&self) -> Option<&Decl>
+        ensures { option_copied result ≡ (headings.heading_of (self.now).decls).declared }
+    {
+        heading_of(self.decls.as_slice()).declared
     }
 
     /// Whether the text is a name that nothing declared has.
