@@ -1,5 +1,5 @@
 -- A mark that is an item by itself, where nothing waits in the reader, goes on at once.
-use Rattle.std.proofs.Common.{◌≡◌, ℕ, List, [], ◌∷◌, Option, None, Some, Result, Ok, Err, OnOk, option_and_then, refl, sym, ◌∙◌, ap, subst}
+use Rattle.std.proofs.Common.{◌≡◌, ℕ, List, [], ◌∷◌, Option, None, Some, Result, Ok, Err, OnOk, refl, sym, subst}
 use Rattle.syn_form.specs.declared.syntax.Mark.{Mark}
 use Rattle.syn_form.specs.declared.syntax.Mark.TheVariants as mark
 use Rattle.syn_form.specs.declared.syntax.Lexeme.TheVariants as lexeme
@@ -10,10 +10,9 @@ use Rattle.syn_parse.specs.declared.items.Item.{Item}
 use Rattle.syn_parse.specs.declared.items.Item.TheVariants as item
 use Rattle.syn_parse.specs.declared.item_reader.Call.{Call}
 use Rattle.syn_parse.specs.declared.item_reader.ItemReader.{ItemReader}
-use Rattle.syn_parse.specs.inner.ItemMachine.{IsLone, mark_next, outside, reads}
+use Rattle.syn_parse.specs.inner.ItemMachine.{IsLone, outside, reads}
 use Rattle.syn_parse.specs.declared.stop.Stop.{Stop}
-use Rattle.syn_parse.specs.declared.stop.Stop.TheVariants as stop
-use Rattle.syn_parse.specs.inner.Feeding.{Keeps, feed, fed}
+use Rattle.syn_parse.specs.inner.Feeding.{Keeps, fed}
 use Rattle.syn_parse.specs.inner.Leads.{Leads}
 use Rattle.syn_parse.proofs.Feeding.{pass_fed}
 use Rattle.syn_parse.proofs.FormFrames.{and_then-some}
