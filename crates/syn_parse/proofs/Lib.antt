@@ -15,6 +15,7 @@ mod OutSound
 pub mod TermShapes
 mod ItemTexts
 pub mod Feeding
+pub mod LoneMarks
 mod Commas
 mod PhraseSound
 mod ItemSound

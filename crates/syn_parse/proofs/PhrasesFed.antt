@@ -1,6 +1,5 @@
 -- A phrase that stands in the reader before all others may as well have gone on already.
 use Rattle.std.proofs.Common.{◌≡◌, ℕ, List, [], ◌∷◌, ◌++◌, Option, None, Some, Result, Ok, Err, OnOk, append-nil, option_and_then, option_map, refl, sym, ◌∙◌, ap, subst}
-use Rattle.syn_form.specs.declared.syntax.Mark.{Mark}
 use Rattle.syn_form.specs.declared.syntax.Mark.TheVariants as mark
 use Rattle.syn_form.specs.declared.syntax.Lexeme.{Lexeme}
 use Rattle.syn_form.specs.declared.syntax.Lexeme.TheVariants as lexeme

@@ -1,12 +1,11 @@
 -- A text stands for what its words stand for.
-use Rattle.std.proofs.Common.{◌≡◌, ℕ, List, Option, None, Some, All, sym, subst}
+use Rattle.std.proofs.Common.{◌≡◌, ℕ, List, All, sym, subst}
 use Rattle.syn_term.specs.Tokens.{Word, Spelled}
 use Rattle.syn_term.proofs.OneSpelling.{one_spelling}
 use Rattle.syn_lex.specs.Lexing.{IsTokenWord}
 use Rattle.syn_lex.proofs.NotSpelled.{spelled_tokens}
 use Rattle.syn_form.specs.Texts.{IsTextOf}
-use Rattle.syn_parse.specs.Parsing.{IsFormSyntaxOf, IsFormSyntaxOfWords, IsOutSyntaxOf, IsOutSyntaxOfWords, IsTermSyntaxOf, IsTermSyntaxOfWords, OneSyntax, Parses}
-use Rattle.syn_parse.proofs.Parses.{one_form_syntax, one_out_syntax, one_term_syntax}
+use Rattle.syn_parse.specs.Parsing.{OneSyntax}
 
 module _ {S : Type 0} (Is : List Word → S → Type 0) (text : List ℕ) where
   -- a text that is made of no words stands for nothing

@@ -1,5 +1,5 @@
 -- Words are read one by one: what was read so far, and what follows at each end.
-use Rattle.std.proofs.Common.{◌≡◌, ℕ, ◌+◌, ◌<◌, ◌≤◌, List, [], ◌∷◌, ◌++◌, Option, None, Some, Result, Ok, Err, All, append-nil, length, take, take-append-drop, drop, slice_get, refl, sym, ◌∙◌, ap, subst, arith}
+use Rattle.std.proofs.Common.{◌≡◌, ℕ, ◌+◌, ◌≤◌, List, [], ◌∷◌, ◌++◌, Option, None, Some, Result, Ok, Err, All, append-nil, length, take, take-append-drop, drop, slice_get, refl, sym, ◌∙◌, ap, subst, arith}
 use Rattle.std.proofs.lemmas.List.{append_assoc, take-map}
 use Rattle.std.proofs.lemmas.List.Elements.{All-take}
 use Rattle.syn_term.specs.Tokens.{Word}

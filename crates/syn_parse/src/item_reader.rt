@@ -1,8 +1,10 @@
 // The second pass puts terms and equalities together. A name is a term by itself until a bracket
 // opens behind it; so the reader never looks ahead.
-ghost use Rattle.std.specs.Prelude.{◌≡◌, List, [], ◌∷◌, IfOk, OnOk};
+ghost use Rattle.std.specs.Prelude.{◌≡◌, List, [], ◌∷◌, IsTrue, IfOk, OnOk};
+ghost use Rattle.syn_form.specs.declared.syntax.Lexeme.TheVariants as lexeme;
 ghost use Rattle.syn_form.specs.declared.syntax.Mark.TheVariants as mark;
 ghost use Rattle.syn_parse.specs.declared.phrase_reader.Phrase.{Phrase};
+ghost use Rattle.syn_parse.specs.declared.phrase_reader.Phrase.TheVariants as phrase;
 ghost use Rattle.syn_parse.specs.inner.Feeding.{Keeps, fed, feed};
 ghost use Rattle.syn_parse.specs.inner.ItemMachine as machine;
 ghost use Rattle.syn_parse.specs.inner.Leads.{Leads, Makes};
@@ -312,6 +314,37 @@ impl<'a> ItemReader<'a> {
         }
     }
 
+    /// Whether nothing waits in the reader and the mark is an item by itself.
+    #[tactic(auto, using(crate::proofs::LoneMarks::lone_mark))]
+    fn is_lone(&self, mark: Mark) -> bool
+        ensures { IsTrue result → machine.IsLone self.now mark }
+    {
+        if !self.items.is_empty() || !self.calls.is_empty() {
+            return false;
+        }
+        if self.last.is_some() || self.left.is_some() {
+            return false;
+        }
+        mark != Mark::Equals
+    }
+
+    /// A mark, and the items that are whole then go to the sink.
+    fn pass_mark<S: Sink<Item<'a>>>(
+        &mut self,
+        alloc: Global,
+        mark: Mark,
+        sink: &mut S,
+    ) -> Result<(), Stop>
+        ensures { (more : List Phrase) → Keeps result (fed S.takes sink.old self.old (phrase.Word (lexeme.Fixed mark) ∷ more)) (fed S.takes sink.new self.new more) }
+    {
+        if self.is_lone(mark) {
+            let item: Item<'a> = Item::Fixed(mark);
+            return sink.take(alloc, item);
+        }
+        self.mark_next(alloc, mark)?;
+        pass_on(alloc, &mut self.items, sink)
+    }
+
     /// One phrase, and the items that are whole then go to the sink.
     pub(crate) fn pass<S: Sink<Item<'a>>>(
         &mut self,
@@ -321,8 +354,13 @@ impl<'a> ItemReader<'a> {
     ) -> Result<(), Stop>
         ensures { (more : List Phrase) → Keeps result (fed S.takes sink.old self.old (phrase.entry ∷ more)) (fed S.takes sink.new self.new more) }
     {
-        self.step(alloc, phrase)?;
-        pass_on(alloc, &mut self.items, sink)
+        match phrase {
+            Phrase::Word(Lexeme::Fixed(mark)) => self.pass_mark(alloc, mark, sink),
+            other => {
+                self.step(alloc, other)?;
+                pass_on(alloc, &mut self.items, sink)
+            }
+        }
     }
 
     /// The end, and the items that are left go to the sink.

@@ -1,4 +1,4 @@
-use Rattle.std.proofs.Common.{◌≡◌, ◌<◌, true, get_or, sym, ◌∙◌, ap, arith}
+use Rattle.std.proofs.Common.{◌≡◌, true, get_or, sym, ◌∙◌, ap, arith}
 use Rattle.std.specs.Char.{is_ascii, is_ascii_alphabetic}
 use Rattle.syn_lex.proofs.AsciiNames.{ascii_low, ascii_name}
 use Rattle.syn_lex.proofs.lengths.name_len.Goals as goal

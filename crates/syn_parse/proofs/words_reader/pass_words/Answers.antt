@@ -3,7 +3,7 @@ use Rattle.std.proofs.lemmas.Option.{MatchOption-at_none, MatchOption-at_some, s
 use Rattle.std.proofs.lemmas.Result.{err_from_is_err_and}
 use Rattle.syn_parse.specs.inner.Feeding.{told}
 use Rattle.syn_parse.proofs.TokenLists.{some_word}
-use Rattle.syn_parse.proofs.WordsRead.{read_end, read_more, read_none, read_start, read_stopped}
+use Rattle.syn_parse.proofs.WordsRead.{read_end, read_more, read_none, read_stopped}
 use Rattle.syn_parse.proofs.words_reader.pass_words.Goals as goal
 
 pub returns-in-None : goal.returns-in-None
