@@ -239,8 +239,8 @@ fn put_in_forms(
 /// a formed formula, and which variables it has, is the record `PutsInputs`. The one error is
 /// `NoMemory`.
 pub fn put_inputs(
-    bank: &mut Bank,
     alloc: Global,
+    bank: &mut Bank,
     syms: &Symbols,
     f: &Form,
     inputs: &[(SymId, Term)],

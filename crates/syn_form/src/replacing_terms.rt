@@ -294,8 +294,8 @@ fn may_replace(syms: &Symbols, f: &Form, p: &Pos, new: &Term) -> bool
 /// variables it has, is the record `ReplacesTerm`.
 #[tactic(auto, using(crate::proofs::InputTerms::growth))]
 pub fn replace_term(
-    bank: &mut Bank,
     alloc: Global,
+    bank: &mut Bank,
     syms: &Symbols,
     f: &Form,
     p: &Pos,

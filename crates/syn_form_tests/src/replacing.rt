@@ -114,7 +114,7 @@ fn put(
     if !are_inputs(syms, inputs) {
         return Err(Fail::new("no inputs"));
     }
-    Ok(put_inputs(bank, alloc, syms, f, inputs)?)
+    Ok(put_inputs(alloc, bank, syms, f, inputs)?)
 }
 
 /// `P -> P`
@@ -160,7 +160,7 @@ fn made_for(
     let f = doubled(alloc, &bank, part)?;
     let new = bank.var(alloc, v)?;
     let before = bank.made();
-    let Some(g) = replace_term(&mut bank, alloc, syms, &f, pos, &new)? else {
+    let Some(g) = replace_term(alloc, &mut bank, syms, &f, pos, &new)? else {
         return Ok(None);
     };
     if head_at(&g, pos) != Some(Head::Var(v)) {
