@@ -12,3 +12,6 @@ pub mod LoopLaws
 pub mod NumberLaws
 pub mod MonoLaws
 pub mod ParamLaws
+pub mod Spellings
+pub mod TheoryTables
+pub mod SimpleBack

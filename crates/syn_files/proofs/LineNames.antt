@@ -27,7 +27,7 @@ use Rattle.syn_files.specs.TheoryLines.{numbered}
 use Rattle.syn_files.specs.inner.Entries.{IsSmall}
 
 -- a byte that names are made of
-abbrev IsPart : ℕ → Type 0
+abbrev pub IsPart : ℕ → Type 0
 IsPart b = (b < 128) × (is_name_byte b ≡ true)
 
 abbrev StartsOther : List ℕ → Type 0
@@ -39,13 +39,13 @@ not_reserved bs h =
     let e : nat_eq 120 120 ≡ false = All-contains StartsOther reserved (120 ∷ bs) (All-from_recursion StartsOther reserved (refl, (refl, (refl, (refl, (refl, (refl, (refl, (refl, (refl, (refl, (refl, (refl, (refl, (refl, (refl, tt)))))))))))))))) h in
     absurd (cc)
 
-all_continue : (bs : List ℕ) → All IsPart bs → list_all is_xid_continue bs ≡ true
+pub all_continue : (bs : List ℕ) → All IsPart bs → list_all is_xid_continue bs ≡ true
 all_continue [] h = refl
 all_continue (b ∷ bs) h =
     let p = All-head IsPart b bs h in
     ap (λ (z : Bool). z && list_all is_xid_continue bs) (is_xid_continue-ascii b p.0 ∙ p.1) ∙ all_continue bs (All-tail IsPart b bs h)
 
-low_bytes : (bs : List ℕ) → All IsPart bs → IsAscii bs
+pub low_bytes : (bs : List ℕ) → All IsPart bs → IsAscii bs
 low_bytes [] h i = omega arith
 low_bytes (b ∷ bs) h zero = (All-head IsPart b bs h).0
 low_bytes (b ∷ bs) h (suc i) = low_bytes bs (All-tail IsPart b bs h) i
