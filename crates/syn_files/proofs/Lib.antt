@@ -15,3 +15,5 @@ pub mod ParamLaws
 pub mod Spellings
 pub mod TheoryTables
 pub mod SimpleBack
+pub mod ExprBack
+pub mod ClauseBack
