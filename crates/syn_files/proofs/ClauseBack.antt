@@ -29,7 +29,8 @@ use Rattle.syn_form.proofs.Owned.{All-left, All-right}
 use Rattle.syn_model.specs.declared.decl.Decl.{Decl}
 use Rattle.syn_model.specs.declared.decl.Decl.TheVariants as decl
 use Rattle.syn_model.specs.Tables.{table_of}
-use Rattle.syn_expr.specs.Told.{CanWriteAll, TellsApart}
+use Rattle.syn_form.specs.Writing.{CanWriteAll}
+use Rattle.syn_expr.specs.Told.{TellsApart}
 use Rattle.syn_expr.proofs.Puts.{EachPuts, IsOfKind, Puts, PutsWords, Separates, Stops, commas_puts, equals_between, puts_then, spaced_word, spelled_alone, token_puts_then, word_then_space}
 use Rattle.syn_expr.proofs.TermSyntaxes.{fold-Applied}
 use Rattle.syn_expr.proofs.TreeReadings.{term_written}
@@ -47,7 +48,7 @@ pub axiom_name : IsName (codes "axiom")
 axiom_name = keyword_name 97 (120 ∷ 105 ∷ 111 ∷ 109 ∷ []) (omega arith) refl (All-from_recursion IsPart (codes "axiom") ((omega arith, refl), ((omega arith, refl), ((omega arith, refl), ((omega arith, refl), ((omega arith, refl), tt)))))) (omega arith) (All-from_recursion (IsOther (codes "axiom")) reserved (refl, (refl, (refl, (refl, (refl, (refl, (refl, (refl, (refl, (refl, (refl, (refl, (refl, (refl, (refl, tt))))))))))))))))
 
 -- a text, what stands between, and a text whose words are known
-both_words : (between : List ℕ) (m : Lexeme) (t u : List ℕ) (l k : List Lexeme) → Separates between m → Puts t l → PutsWords u k → Puts (t ++ between ++ u) (l ++ m ∷ k)
+pub both_words : (between : List ℕ) (m : Lexeme) (t u : List ℕ) (l k : List Lexeme) → Separates between m → Puts t l → PutsWords u k → Puts (t ++ between ++ u) (l ++ m ∷ k)
 both_words between m t u l k s p q =
     subst (λ (z : List ℕ). Puts z (l ++ m ∷ k)) (sym (append_assoc t between u))
     (puts_then t (between ++ u) l (m ∷ k) p (λ rest stops. subst Stops (sym (append_assoc between u rest)) (s.stops (u ++ rest))) (s.words u k q))
@@ -55,7 +56,7 @@ both_words between m t u l k s p q =
 both_ways_between : Separates (codes " <-> ") (fixed mark.BothWays)
 both_ways_between = spaced_word (fixed mark.BothWays) (9, omega arith, refl)
 
-in_turn : (f b s o : List ℕ) → f ++ b ++ s ++ o ≡ f ++ (b ++ s ++ o)
+pub in_turn : (f b s o : List ℕ) → f ++ b ++ s ++ o ≡ f ++ (b ++ s ++ o)
 in_turn f b s o = simp append_assoc refl
 
 -- a name before a colon, and words

@@ -23,7 +23,8 @@ use Rattle.syn_form.specs.Trees.{FormTree, OutTree, QFormTree, bare_form, bare_o
 use Rattle.syn_form.proofs.BareVars.{form_vars_bare, out_vars_bare, qform_vars_bare, term_vars_bare}
 use Rattle.syn_form.proofs.Lists.{none_in_nil}
 use Rattle.syn_expr.specs.Readable.{CanReadForm, CanReadOut, CanReadQForm, CanReadTerm}
-use Rattle.syn_expr.specs.Told.{CanWriteAll, TellsApart}
+use Rattle.syn_form.specs.Writing.{CanWriteAll}
+use Rattle.syn_expr.specs.Told.{TellsApart}
 use Rattle.syn_expr.proofs.BackForms.{qform_back}
 use Rattle.syn_expr.proofs.BackTerms.{term_back}
 use Rattle.syn_expr.proofs.BareCounts.{depth_bare, form_depth_bare, form_nodes_bare, nodes_bare, out_depth_bare, out_nodes_bare, qform_depth_bare, qform_nodes_bare}

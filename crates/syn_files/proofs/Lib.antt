@@ -17,3 +17,5 @@ pub mod TheoryTables
 pub mod SimpleBack
 pub mod ExprBack
 pub mod ClauseBack
+pub mod OrderBack
+pub mod MonoBack
