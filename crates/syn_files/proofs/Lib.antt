@@ -19,3 +19,4 @@ pub mod ExprBack
 pub mod ClauseBack
 pub mod OrderBack
 pub mod MonoBack
+pub mod NamelessLines
