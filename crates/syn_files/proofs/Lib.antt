@@ -20,3 +20,5 @@ pub mod ClauseBack
 pub mod OrderBack
 pub mod MonoBack
 pub mod NamelessLines
+pub mod NamedVars
+pub mod ClauseLines
