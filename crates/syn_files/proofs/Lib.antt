@@ -22,3 +22,4 @@ pub mod MonoBack
 pub mod NamelessLines
 pub mod NamedVars
 pub mod ClauseLines
+pub mod OrderLines
