@@ -1,8 +1,8 @@
 -- What a text is spelled as, put before what follows: word by word.
-use Rattle.std.proofs.Common.{◌≡◌, ℕ, ◌<◌, ◌≤◌, Bool, true, false, cond, List, [], ◌∷◌, ◌++◌, codes, map, nat_eq, length, get_or, drop, refl, sym, ◌∙◌, ap, subst, arith, All, Contains, append_assoc, append-nil}
+use Rattle.std.proofs.Common.{◌≡◌, ℕ, Bool, cond, List, [], ◌∷◌, ◌++◌, length, get_or, drop, refl, sym, ap, subst, arith, append_assoc}
 use Rattle.std.proofs.lemmas.List.{take_at, drop_at}
 use Rattle.syn_term.specs.declared.tokens.TokenKind.{TokenKind}
-use Rattle.syn_term.specs.Tokens.{gap, over, token, starts, IsToken, Word, Spelled, none_left, past_gap, word_then}
+use Rattle.syn_term.specs.Tokens.{gap, over, starts, IsToken, Word, Spelled, past_gap, word_then}
 use Rattle.syn_term.proofs.Passes.{above}
 use Rattle.syn_term.proofs.TokenBegins.{Apart, token_begins}
 

@@ -1,9 +1,9 @@
 -- Printed clauses and axioms read back.
-use Rattle.std.proofs.Common.{◌≡◌, ℕ, ◌<◌, ◌≤◌, List, [], ◌∷◌, ◌++◌, All, Contains, Option, Some, codes, length, map, refl, sym, ◌∙◌, ap, subst, arith, append_assoc}
+use Rattle.std.proofs.Common.{◌≡◌, ℕ, ◌≤◌, List, [], ◌∷◌, ◌++◌, All, Contains, Option, Some, codes, length, map, refl, sym, ◌∙◌, ap, subst, arith, append_assoc}
 use Rattle.std.specs.List.{flat_map}
 use Rattle.std.proofs.lemmas.List.{length-map, map-append}
-use Rattle.std.proofs.lemmas.List.Elements.{All-contains, All-from_recursion, All-head, All-tail, Contains-get_or}
-use mathlib.Core.Logic.{inl, inr}
+use Rattle.std.proofs.lemmas.List.Elements.{All-from_recursion, All-head, All-tail, Contains-get_or}
+use mathlib.Core.Logic.{inl}
 use Rattle.syn_term.specs.declared.sorts.Var.{Var}
 use Rattle.syn_term.specs.DeclaredSorts.{IsTable}
 use Rattle.syn_term.specs.Names.{IsName, reserved}
@@ -12,12 +12,11 @@ use Rattle.syn_term.specs.Symbols.{SymbolTable}
 use Rattle.syn_term.specs.Tokens.{Word}
 use Rattle.syn_form.specs.declared.syntax.HeadName.TheVariants as head
 use Rattle.syn_form.specs.declared.syntax.Lexeme.{Lexeme}
-use Rattle.syn_form.specs.declared.syntax.Lexeme.TheVariants as lexeme
 use Rattle.syn_form.specs.declared.syntax.Mark.TheVariants as mark
 use Rattle.syn_form.specs.declared.syntax.TermSyntax.{TermSyntax}
 use Rattle.syn_form.specs.declared.syntax.TermSyntax.TheViews as term_syntax
 use Rattle.syn_form.specs.Elaboration.{elaborate_term}
-use Rattle.syn_form.specs.Grammar.{fixed, in_brackets, name_word, sign_word, spelling, with_commas, words_of_term, words_of_term_step}
+use Rattle.syn_form.specs.Grammar.{fixed, in_brackets, name_word, spelling, with_commas, words_of_term, words_of_term_step}
 use Rattle.syn_form.specs.Plain.{IsPlainForm, IsPlainOut, IsSorted}
 use Rattle.syn_form.specs.PlainQuantified.{IsPlainQForm}
 use Rattle.syn_form.specs.Printing.{joined, printed_form, printed_out, printed_qform, printed_term}
@@ -31,12 +30,12 @@ use Rattle.syn_model.specs.declared.decl.Decl.TheVariants as decl
 use Rattle.syn_model.specs.Tables.{table_of}
 use Rattle.syn_form.specs.Writing.{CanWriteAll}
 use Rattle.syn_expr.specs.Told.{TellsApart}
-use Rattle.syn_expr.proofs.Puts.{EachPuts, IsOfKind, Puts, PutsWords, Separates, Stops, commas_puts, equals_between, puts_then, spaced_word, spelled_alone, token_puts_then, word_then_space}
+use Rattle.syn_expr.proofs.Puts.{EachPuts, Puts, PutsWords, Separates, Stops, commas_puts, equals_between, puts_then, spaced_word, spelled_alone, token_puts_then, word_then_space}
 use Rattle.syn_expr.proofs.TermSyntaxes.{fold-Applied}
 use Rattle.syn_expr.proofs.TreeReadings.{term_written}
 use Rattle.syn_files.specs.Printed.{IsWithinLimit, axiom_text, clause_front, fun_clause_text, in_brackets_text, rel_clause_text}
 use Rattle.syn_files.specs.TheoryLines.{AreLineNames, WritesClause, file_scope, own_name}
-use Rattle.syn_files.proofs.ExprBack.{AreNamed, Stands, form_stands, out_stands, qform_stands, term_is, term_puts_back}
+use Rattle.syn_files.proofs.ExprBack.{form_stands, out_stands, qform_stands, term_is, term_puts_back}
 use Rattle.syn_files.proofs.LineNames.{IsPart}
 use Rattle.syn_files.proofs.SimpleBack.{Told, brackets_put, name_lexeme}
 use Rattle.syn_files.proofs.Spellings.{IsOther, keyword_name}

@@ -1,5 +1,5 @@
 -- The printed line of a clause reads back behind the declarations before it, whatever stands behind it.
-use Rattle.std.proofs.Common.{◌≡◌, ℕ, ◌≤◌, List, [], ◌∷◌, ◌++◌, All, Contains, Option, Some, codes, length, map, sym, ◌∙◌, ap, subst, arith}
+use Rattle.std.proofs.Common.{◌≡◌, ℕ, ◌≤◌, List, [], ◌++◌, All, Option, Some, codes, length, map, sym, ◌∙◌, ap, subst, arith}
 use Rattle.std.specs.List.{flat_map}
 use Rattle.std.proofs.lemmas.List.{length-map}
 use Rattle.syn_term.specs.declared.sorts.Sort.{Sort}
@@ -16,10 +16,8 @@ use Rattle.syn_model.specs.declared.decl.Decl.TheVariants as decl
 use Rattle.syn_model.specs.BareTrees.{bare_decl}
 use Rattle.syn_model.specs.Clauses.{HasArguments}
 use Rattle.syn_model.specs.Declaring.{IsTheory, MayFunClause, MayRelClause}
-use Rattle.syn_model.specs.Headings.{heading_of}
 use Rattle.syn_model.specs.Tables.{IsDeclared, table_of}
-use Rattle.syn_form.specs.Writing.{CanWriteAll}
-use Rattle.syn_expr.specs.Told.{TellsApart}
+use Rattle.syn_expr.specs.Told.{CanWriteAll}
 use Rattle.syn_files.specs.Printed.{IsMark, IsWithinLimit, fun_clause_text, in_brackets_text, named_by, rel_clause_text}
 use Rattle.syn_files.specs.TheoryLines.{file_scope, heading_name}
 use Rattle.syn_files.specs.inner.Entries.{IsSmall}

@@ -1,9 +1,7 @@
 -- Printed expressions of a file read back, put before what follows: terms, outputs and formulas whose variables are told by their
 -- names, and closed formulas.
-use Rattle.std.proofs.Common.{◌≡◌, ℕ, ◌+◌, ◌<◌, ◌≤◌, false, List, [], ◌∷◌, ◌++◌, All, Contains, Some, length, map, refl, sym, ◌∙◌, ap, subst, arith}
-use Rattle.std.specs.List.{flat_map, range_with_len}
-use Rattle.std.proofs.lemmas.List.Elements.{All-contains, All-head, All-nil, All-tail}
-use Rattle.syn_term.specs.declared.sorts.Sort.{Sort}
+use Rattle.std.proofs.Common.{◌≡◌, ℕ, ◌+◌, ◌<◌, ◌≤◌, List, [], All, Contains, Some, length, map, refl, sym, subst}
+use Rattle.std.proofs.lemmas.List.Elements.{All-contains, All-nil}
 use Rattle.syn_term.specs.declared.sorts.Var.{Var}
 use Rattle.syn_term.specs.DeclaredSorts.{IsTable}
 use Rattle.syn_term.specs.Names.{IsName}
@@ -29,7 +27,7 @@ use Rattle.syn_expr.proofs.BackForms.{qform_back}
 use Rattle.syn_expr.proofs.BackTerms.{term_back}
 use Rattle.syn_expr.proofs.BareCounts.{depth_bare, form_depth_bare, form_nodes_bare, nodes_bare, out_depth_bare, out_nodes_bare, qform_depth_bare, qform_nodes_bare}
 use Rattle.syn_expr.proofs.FormPuts.{qform_puts}
-use Rattle.syn_expr.proofs.Puts.{EachPuts, Puts, PutsWords}
+use Rattle.syn_expr.proofs.Puts.{Puts, PutsWords}
 use Rattle.syn_expr.proofs.ReadsBack.{form_back, form_puts, out_back, out_puts}
 use Rattle.syn_expr.proofs.TermPuts.{term_goes}
 use Rattle.syn_expr.proofs.Told.{CanReadVars, IsOver, term_told, var_told}

@@ -23,3 +23,4 @@ pub mod NamelessLines
 pub mod NamedVars
 pub mod ClauseLines
 pub mod OrderLines
+pub mod LinesLead

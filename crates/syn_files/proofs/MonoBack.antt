@@ -1,5 +1,5 @@
 -- Printed monotonicity rows read back.
-use Rattle.std.proofs.Common.{◌≡◌, ◌⊎◌, ℕ, ◌-◌, ◌<◌, ◌≤◌, ◌^◌, Bool, true, false, true≢false, List, [], ◌∷◌, ◌++◌, All, Contains, Option, None, Some, codes, decimal, length, map, slice_get, refl, sym, ◌∙◌, ap, subst, arith, append_assoc, append-nil}
+use Rattle.std.proofs.Common.{◌≡◌, ◌⊎◌, ℕ, ◌-◌, ◌<◌, ◌^◌, Bool, true, false, true≢false, List, [], ◌∷◌, ◌++◌, All, Contains, Option, Some, codes, decimal, length, map, slice_get, refl, sym, ◌∙◌, ap, subst, arith, append_assoc, append-nil}
 use Rattle.std.proofs.lemmas.List.Elements.{All-contains, All-from_recursion}
 use Rattle.std.proofs.lemmas.Option.{get_or_from_slice_get, slice_get_within}
 use mathlib.Core.Logic.{inl, inr}
@@ -9,7 +9,7 @@ use Rattle.syn_term.specs.declared.sorts.Sort.{Sort}
 use Rattle.syn_term.specs.declared.sorts.Sym.{Sym}
 use Rattle.syn_term.specs.declared.sorts.SymId.{SymId}
 use Rattle.syn_term.specs.Names.{IsName, reserved}
-use Rattle.syn_term.specs.Symbols.{SymbolTable, symbol_at, succ_symbol, zero_symbol}
+use Rattle.syn_term.specs.Symbols.{SymbolTable, symbol_at, zero_symbol}
 use Rattle.syn_form.specs.declared.syntax.Lexeme.{Lexeme}
 use Rattle.syn_form.specs.declared.syntax.Lexeme.TheVariants as lexeme
 use Rattle.syn_form.specs.declared.syntax.Mark.TheVariants as mark
@@ -17,7 +17,6 @@ use Rattle.syn_form.specs.declared.trees.Mono.{Mono}
 use Rattle.syn_form.specs.Elaboration.{head_symbol, symbol_named}
 use Rattle.syn_form.specs.Grammar.{fixed, spelling}
 use Rattle.syn_form.specs.Printing.{name_of}
-use Rattle.syn_form.specs.Scopes.{TextScope}
 use Rattle.syn_form.specs.Sorts.{is_relation}
 use Rattle.syn_model.specs.declared.decl.Decl.{Decl}
 use Rattle.syn_model.specs.declared.decl.Decl.TheVariants as decl

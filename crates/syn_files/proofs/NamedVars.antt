@@ -1,6 +1,6 @@
 -- The names of a printed line's variables are new to what stands before the line, and the line's heading has a name.
-use Rattle.std.proofs.Common.{◌≡◌, ◌⊎◌, inl, inr, ℕ, ◌<◌, ◌≤◌, List, [], ◌∷◌, ◌++◌, All, Any, Contains, Option, None, Some, fold, length, map, get_or, refl, sym, ◌∙◌, ap, subst, arith, length-append}
-use Rattle.std.specs.List.{flat_map, range_with_len}
+use Rattle.std.proofs.Common.{◌≡◌, inl, inr, ℕ, ◌≤◌, List, [], ◌∷◌, ◌++◌, All, Any, Contains, Option, None, Some, fold, length, map, get_or, refl, sym, ◌∙◌, ap, subst, arith, length-append}
+use Rattle.std.specs.List.{range_with_len}
 use Rattle.std.specs.Option.{option_map}
 use Rattle.std.proofs.lemmas.Grind.{flat_map-append}
 use Rattle.std.proofs.lemmas.List.{get_or_append_left, map-append}
@@ -19,7 +19,7 @@ use Rattle.syn_model.specs.Declaring.{IsTheory, MayDeclare, nothing, one_more}
 use Rattle.syn_model.specs.Headings.{Heading, heading_after, heading_of}
 use Rattle.syn_model.specs.Heads.{IsNewName}
 use Rattle.syn_model.specs.Tables.{IsDeclared, other_name, other_names, table_of}
-use Rattle.syn_model.proofs.BareDeclaring.{bare_heading, heading_bare, names_bare, table_bare}
+use Rattle.syn_model.proofs.BareDeclaring.{heading_bare, names_bare, table_bare}
 use Rattle.syn_expr.specs.Told.{TellsApart}
 use Rattle.syn_files.specs.Printed.{AreFree, IsMark, name_by, named_by, own_after}
 use Rattle.syn_files.specs.TheoryLines.{AreLineNames, heading_name, own_name}

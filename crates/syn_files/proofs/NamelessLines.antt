@@ -1,6 +1,5 @@
 -- The printed line of a declaration without variables reads back behind the declarations before it, whatever stands behind it.
-use Rattle.std.proofs.Common.{◌≡◌, ℕ, ◌≤◌, Bool, true, false, List, [], ◌∷◌, ◌++◌, All, Option, None, Some, codes, decimal, length, map, refl, sym, ◌∙◌, ap, subst, arith}
-use Rattle.std.specs.Option.{option_map_or}
+use Rattle.std.proofs.Common.{◌≡◌, ℕ, Bool, true, false, List, [], ◌∷◌, ◌++◌, All, Option, Some, codes, decimal, map, refl, sym, ◌∙◌, ap, subst, arith}
 use Rattle.std.proofs.lemmas.List.Elements.{All-weaker}
 use Rattle.syn_term.specs.declared.sorts.Sort.{Sort}
 use Rattle.syn_term.specs.declared.sorts.Sym.{Sym}
@@ -9,11 +8,9 @@ use Rattle.syn_term.specs.DeclaredSorts.{IsTable, MayAddList, MayAddTuple}
 use Rattle.syn_term.specs.Symbols.{IsPrefix, IsSort, MayAdd, SymbolTable, symbol_at}
 use Rattle.syn_form.specs.declared.trees.Binder.{Binder}
 use Rattle.syn_form.specs.declared.trees.Mono.{Mono}
-use Rattle.syn_form.specs.Plain.{IsPlainForm}
 use Rattle.syn_form.specs.PlainQuantified.{IsPlainQForm, MayBind, binders_of}
 use Rattle.syn_form.specs.Printing.{PrintedForm, name_of, printed_qform, sort_text}
-use Rattle.syn_form.specs.Quantified.{bare_qform, free_vars}
-use Rattle.syn_form.specs.Scopes.{Named}
+use Rattle.syn_form.specs.Quantified.{bare_qform}
 use Rattle.syn_form.specs.Sorts.{is_relation}
 use Rattle.syn_form.specs.Trees.{QFormTree}
 use Rattle.syn_model.specs.declared.decl.Decl.{Decl}
@@ -22,8 +19,7 @@ use Rattle.syn_model.specs.BareTrees.{bare_decl}
 use Rattle.syn_model.specs.Declaring.{AsksHead, GivesFor, IsMono, IsTheory, MayAxiom, MayMono}
 use Rattle.syn_model.specs.Tables.{fun_symbol, rel_symbol, table_of}
 use Rattle.syn_model.proofs.BareDeclaring.{table_bare}
-use Rattle.syn_form.specs.Writing.{CanWriteAll}
-use Rattle.syn_expr.specs.Told.{TellsApart}
+use Rattle.syn_expr.specs.Told.{CanWriteAll}
 use Rattle.syn_expr.proofs.Told.{IsOver}
 use Rattle.syn_files.specs.Printed.{IsWithinLimit, axiom_text, fun_text, given_text, in_brackets_text, list_sort_text, mono_text, rel_text, sort_texts, symbol_text, tuple_sort_text}
 use Rattle.syn_files.specs.TheoryLines.{direction, file_scope}

@@ -1,17 +1,14 @@
 -- Printed orders and list sorts read back.
-use Rattle.std.proofs.Common.{◌≡◌, ◌≢◌, ℕ, ◌<◌, ◌≤◌, Bool, false, nat_eq, List, [], ◌∷◌, ◌++◌, All, Contains, codes, length, map, get_or, refl, sym, ◌∙◌, ap, subst, arith, append_assoc, append-nil}
+use Rattle.std.proofs.Common.{◌≡◌, ◌≢◌, ℕ, ◌≤◌, List, [], ◌∷◌, ◌++◌, All, Contains, codes, length, map, refl, sym, ◌∙◌, ap, subst, arith, append_assoc, append-nil}
 use Rattle.std.proofs.lemmas.List.{map-append}
 use Rattle.std.proofs.lemmas.List.Elements.{All-from_recursion, All-head, All-tail}
-use mathlib.Core.Logic.{inl, inr}
+use mathlib.Core.Logic.{inl}
 use Rattle.syn_term.specs.declared.sorts.Sort.{Sort}
-use Rattle.syn_term.specs.declared.sorts.Var.{Var}
-use Rattle.syn_term.specs.declared.tokens.TokenKind.{TokenKind}
 use Rattle.syn_term.specs.DeclaredSorts.{IsTable}
 use Rattle.syn_term.specs.Names.{IsName, reserved}
 use Rattle.syn_term.specs.Symbols.{IsSort, SymbolTable}
 use Rattle.syn_term.specs.Terms.{TermTree, bare}
 use Rattle.syn_term.specs.Tokens.{Spelled, Word}
-use Rattle.syn_term.proofs.TokenBegins.{Apart}
 use Rattle.syn_form.specs.declared.syntax.Lexeme.{Lexeme}
 use Rattle.syn_form.specs.declared.syntax.Mark.TheVariants as mark
 use Rattle.syn_form.specs.Grammar.{fixed, in_brackets, name_word, sign_word, spelling, with_commas}
@@ -24,11 +21,11 @@ use Rattle.syn_model.specs.declared.decl.Decl.TheVariants as decl
 use Rattle.syn_model.specs.Tables.{table_of}
 use Rattle.syn_form.specs.Writing.{CanWriteAll}
 use Rattle.syn_expr.specs.Told.{TellsApart}
-use Rattle.syn_expr.proofs.Puts.{EachPuts, IsOfKind, Puts, PutsWords, Stops, both_puts, comma_between, commas_puts, end_spelled, end_stops, equals_between, open_stops, space_stops, spaced_word, spelled_alone, token_puts, word_then_space}
+use Rattle.syn_expr.proofs.Puts.{EachPuts, Puts, PutsWords, both_puts, commas_puts, end_spelled, end_stops, equals_between, space_stops, spaced_word, spelled_alone, token_puts, word_then_space}
 use Rattle.syn_expr.proofs.Told.{IsOver}
 use Rattle.syn_files.specs.Printed.{IsWithinLimit, in_brackets_text, list_sort_text, named_text, order_text}
 use Rattle.syn_files.specs.TheoryLines.{AreLineNames, file_scope, numbered, parameter_of}
-use Rattle.syn_files.specs.Words.{WriteParameters, bracketed, listed_words}
+use Rattle.syn_files.specs.Words.{WriteParameters}
 use Rattle.syn_files.proofs.ClauseBack.{both_words, in_turn, name_then_colon}
 use Rattle.syn_files.proofs.ExprBack.{nameless_over, term_stands}
 use Rattle.syn_files.proofs.LineNames.{IsPart}
@@ -50,8 +47,7 @@ module _ (table : SymbolTable) (over : IsOver (file_scope table [])) where
       let p = sort_put table over n.var.sort (All-head (λ (n : Named). IsSort table n.var.sort) n ns sorts) in
       let q = params_put ns (All-tail (λ (n : Named). IsName n.text) n ns named) (All-tail (λ (n : Named). IsSort table n.var.sort) n ns sorts) in
       let one = name_then_colon n.text (sort_text table n.var.sort) (p.word ∷ []) (All-head (λ (n : Named). IsName n.text) n ns named) (sort_puts table over n.var.sort p).words in
-      let lexemes = name_lexeme n.text ∷ fixed mark.Colon ∷ p.word ∷ [] in
-      (
+      let lexemes = name_lexeme n.text ∷ fixed mark.Colon ∷ p.word ∷ [] in (
         lexemes ∷ q.0,
         ((spelling p.word, p.writes, refl), q.1),
         (subst (λ (z : List ℕ). Puts z lexemes) (sym (append_assoc n.text (codes ": ") (sort_text table n.var.sort))) one, q.2),
@@ -89,7 +85,7 @@ order_told ds names good written apart name args measure named some texts sorts 
         p.1,
         body.stands,
         map-append spelling (name_lexeme (codes "order") ∷ name_lexeme name ∷ in_brackets (with_commas p.0)) (name_lexeme (codes "by") ∷ body.lexemes)
-        ∙ ap (λ (z : List Word). (name_word (codes "order") ∷ name_word name ∷ z) ++ name_word (codes "by") ∷ map spelling body.lexemes) (brackets_spelled p.0),
+            ∙ ap (λ (z : List Word). (name_word (codes "order") ∷ name_word name ∷ z) ++ name_word (codes "by") ∷ map spelling body.lexemes) (brackets_spelled p.0),
       );
     }
 

@@ -1,5 +1,5 @@
 -- The printed line of an order reads back behind the declarations before it, whatever stands behind it.
-use Rattle.std.proofs.Common.{◌≡◌, ◌≢◌, inl, inr, ℕ, zero, suc, ◌+◌, ◌-◌, ◌≤◌, List, [], ◌∷◌, ◌++◌, All, Contains, Option, Some, codes, length, map, get_or, slice_get, refl, sym, ◌∙◌, ap, subst, arith, append_assoc}
+use Rattle.std.proofs.Common.{◌≡◌, ◌≢◌, inl, ℕ, zero, suc, ◌+◌, ◌-◌, List, [], ◌∷◌, ◌++◌, All, Contains, Option, Some, codes, length, map, slice_get, refl, sym, ◌∙◌, ap, subst, arith, append_assoc}
 use Rattle.std.proofs.lemmas.List.{length-map, map-append}
 use Rattle.std.proofs.lemmas.List.Elements.{All-contains, All-cons, All-head, All-map, All-nil, All-tail, All-weaker, Contains-append_right}
 use Rattle.std.proofs.lemmas.List.Sums.{fold-append}
@@ -10,7 +10,7 @@ use Rattle.syn_term.specs.Names.{IsName}
 use Rattle.syn_term.specs.Symbols.{IsSort, SymbolTable, first_symbols, names_of, with_symbol}
 use Rattle.syn_term.specs.Terms.{TermTree, bare}
 use Rattle.syn_form.specs.Plain.{HasOneSortEach, IsSorted}
-use Rattle.syn_form.specs.Printing.{joined, printed_term, sort_text}
+use Rattle.syn_form.specs.Printing.{printed_term}
 use Rattle.syn_form.specs.Scopes.{Named}
 use Rattle.syn_form.specs.Trees.{term_vars}
 use Rattle.syn_form.proofs.Lists.{Contains-head, Contains-tail}
@@ -21,8 +21,7 @@ use Rattle.syn_model.specs.BareTrees.{bare_decl}
 use Rattle.syn_model.specs.Declaring.{IsNumberedIn, IsTheory, MayDeclare}
 use Rattle.syn_model.specs.Heads.{IsNewName}
 use Rattle.syn_model.specs.Tables.{IsDeclared, order_symbol, table_after, table_of}
-use Rattle.syn_form.specs.Writing.{CanWriteAll}
-use Rattle.syn_expr.specs.Told.{TellsApart}
+use Rattle.syn_expr.specs.Told.{CanWriteAll}
 use Rattle.syn_files.specs.Printed.{IsMark, IsWithinLimit, in_brackets_text, name_by, named_by, named_text, order_text}
 use Rattle.syn_files.specs.TheoryLines.{file_scope, numbered}
 use Rattle.syn_files.specs.inner.Entries.{IsSmall}

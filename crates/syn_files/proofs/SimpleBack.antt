@@ -1,7 +1,7 @@
 -- Printed lines without expressions read back.
-use Rattle.std.proofs.Common.{◌≡◌, ℕ, ◌<◌, ◌≤◌, List, [], ◌∷◌, ◌++◌, All, codes, length, map, refl, sym, ◌∙◌, ap, subst, arith, append_assoc}
+use Rattle.std.proofs.Common.{◌≡◌, ℕ, ◌≤◌, List, [], ◌∷◌, ◌++◌, All, codes, length, map, refl, sym, ◌∙◌, ap, subst, arith, append_assoc}
 use Rattle.std.proofs.lemmas.List.{map-append}
-use mathlib.Core.Logic.{inl, inr}
+use mathlib.Core.Logic.{inl}
 use Rattle.syn_term.specs.declared.sorts.Sort.{Sort}
 use Rattle.syn_term.specs.Names.{IsName}
 use Rattle.syn_term.specs.Symbols.{IsSort, SymbolTable}
@@ -18,8 +18,8 @@ use Rattle.syn_expr.proofs.Puts.{EachPuts, IsOfKind, Puts, PutsWords, both_puts,
 use Rattle.syn_expr.proofs.Told.{IsOver}
 use Rattle.syn_files.specs.Printed.{fun_text, in_brackets_text, rel_text, sort_texts, tuple_sort_text}
 use Rattle.syn_files.specs.TheoryLines.{Writes, file_scope}
-use Rattle.syn_files.specs.Words.{WriteSorts, WritesSort, bracketed, listed_words, singly}
-use Rattle.syn_files.proofs.Spellings.{SortPut, alone, brackets_then, fun_name, listed_spelled, rel_name, sort_name, sort_put, sort_puts, sorts_put, words_spelled}
+use Rattle.syn_files.specs.Words.{listed_words, singly}
+use Rattle.syn_files.proofs.Spellings.{alone, brackets_then, fun_name, listed_spelled, rel_name, sort_name, sort_put, sort_puts, sorts_put, words_spelled}
 
 -- the line is words that write the declaration
 pub record Told (ds : List Decl) (d : Decl) (text : List ℕ) : Type 0 where

@@ -1,11 +1,11 @@
 -- The words of printed keywords, names and sorts, and of lists of them in brackets.
-use Rattle.std.proofs.Common.{◌≡◌, ℕ, zero, suc, ◌<◌, ◌≤◌, Bool, true, false, nat_eq, List, [], ◌∷◌, ◌++◌, All, Contains, Option, None, Some, codes, length, map, get_or, position, if◌then◌else◌, refl, sym, ◌∙◌, ap, subst, arith, append_assoc, true≢false}
+use Rattle.std.proofs.Common.{◌≡◌, ℕ, ◌<◌, ◌≤◌, Bool, true, false, nat_eq, List, [], ◌∷◌, ◌++◌, All, Some, codes, length, map, get_or, position, if◌then◌else◌, refl, sym, ◌∙◌, ap, subst, arith, append_assoc, true≢false}
 use Rattle.std.specs.Char.{is_ascii_alphabetic}
 use Rattle.std.specs.List.{list_all}
 use Rattle.std.specs.Option.{option_map}
 use Rattle.std.specs.Str.{IsAscii, bytes_eq, chars}
 use Rattle.std.proofs.lemmas.List.{map-append}
-use Rattle.std.proofs.lemmas.List.Elements.{All-contains, All-cons, All-from_recursion, All-head, All-tail}
+use Rattle.std.proofs.lemmas.List.Elements.{All-contains, All-from_recursion, All-head, All-tail}
 use Rattle.std.proofs.lemmas.Slice.Eq.{bytes_eq-Decides}
 use Rattle.std.proofs.lemmas.Str.{IsUtf8-from_ascii, chars-IsAscii}
 use mathlib.Core.Logic.{inl, inr}
@@ -13,8 +13,6 @@ use Rattle.unicode_ident.specs.Ident.{is_xid_continue}
 use Rattle.unicode_ident.proofs.IdentLemmas.{is_xid_start-ascii}
 use Rattle.syn_term.specs.declared.sorts.Sort.{Sort}
 use Rattle.syn_term.specs.declared.sorts.Sort.TheVariants as sort
-use Rattle.syn_term.specs.declared.tokens.TokenKind.TheVariants as kind
-use Rattle.syn_term.specs.DeclaredSorts.{sort_named}
 use Rattle.syn_term.specs.Names.{IsName, Starts, reserved}
 use Rattle.syn_term.specs.Symbols.{IsSort, SymbolTable}
 use Rattle.syn_term.specs.Tokens.{Word}
@@ -22,9 +20,9 @@ use Rattle.syn_form.specs.declared.syntax.Lexeme.{Lexeme}
 use Rattle.syn_form.specs.declared.syntax.Lexeme.TheVariants as lexeme
 use Rattle.syn_form.specs.declared.syntax.Mark.TheVariants as mark
 use Rattle.syn_form.specs.Grammar.{fixed, in_brackets, sign_word, spelling, with_commas}
-use Rattle.syn_form.specs.Printing.{joined, sort_text}
+use Rattle.syn_form.specs.Printing.{sort_text}
 use Rattle.syn_expr.proofs.BackTerms.{sort_back}
-use Rattle.syn_expr.proofs.Puts.{EachPuts, IsOfKind, Puts, PutsWords, Stops, close_stops, head_puts, open_stops, token_puts, token_puts_then, token_then, words_then}
+use Rattle.syn_expr.proofs.Puts.{EachPuts, IsOfKind, Puts, PutsWords, close_stops, open_stops, token_puts, token_puts_then, token_then, words_then}
 use Rattle.syn_expr.proofs.Told.{IsOver, sort_told}
 use Rattle.syn_files.specs.TheoryLines.{file_scope}
 use Rattle.syn_files.specs.Words.{WriteSorts, WritesSort, bracketed, comma, listed_words, singly}

@@ -1,5 +1,5 @@
 -- The table of a theory is well formed, and begins the table of each theory that has more declarations.
-use Rattle.std.proofs.Common.{ℕ, ◌≤◌, List, [], ◌∷◌, ◌++◌, All, fold, length, sym, subst, arith, length-append}
+use Rattle.std.proofs.Common.{◌≤◌, List, [], ◌∷◌, ◌++◌, All, fold, length, sym, subst, arith, length-append}
 use Rattle.std.proofs.lemmas.List.Elements.{All-append, All-cons, All-nil}
 use Rattle.std.proofs.lemmas.List.Sums.{fold-append}
 use Rattle.syn_term.specs.declared.sorts.Sym.{Sym}
