@@ -173,21 +173,17 @@ module _ (ds : List Decl) where
   mono_got ws d n None is row e = absurd (cc)
   mono_got ws d n (Some m) is row e =
       let h : decl.Monotone n.value m ≡ d = cc in
-      let r = row_read (table_of ds) n.left m row in (
-        n.value,
-        m,
-        sym h,
-        record {
-          rel = r.rel;
-          sym = r.sym_name;
-          given = r.given;
-          rel_is = r.rel_is;
-          sym_is = r.sym_is;
-          few = r.few;
-          given_is = r.given_is;
-          is = ap (λ (z : List Word). name_word (codes "mono") ∷ z) (entry_read ws n is ∙ ap (λ (z : List Word). name_word n.value ∷ sign_word (codes ":") ∷ z) r.is);
-        },
-      )
+      let r = row_read (table_of ds) n.left m row in
+      (n.value, m, sym h, record {
+        rel = r.rel;
+        sym = r.sym_name;
+        given = r.given;
+        rel_is = r.rel_is;
+        sym_is = r.sym_is;
+        few = r.few;
+        given_is = r.given_is;
+        is = ap (λ (z : List Word). name_word (codes "mono") ∷ z) (entry_read ws n is ∙ ap (λ (z : List Word). name_word n.value ∷ sign_word (codes ":") ∷ z) r.is);
+      })
 
   pub mono_read : (ws : List Word) (d : Decl) → mono_line (table_of ds) ws ≡ Some d → (name : List ℕ) × (m : Mono) × (d ≡ decl.Monotone name m) × Writes ds (decl.Monotone name m) (name_word (codes "mono") ∷ ws)
   mono_read ws d e = option_and_then_some (λ (n : Got (List ℕ)). option_map (decl.Monotone n.value) (row_line (table_of ds) n.left)) (entry_first ws) d e

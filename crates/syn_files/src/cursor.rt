@@ -316,7 +316,11 @@ impl<'a> Cursor<'a> {
     }
 
     /// The same behind the opening bracket.
-    fn sorts_on(&mut self, alloc: Global, syms: &Symbols) -> Result<Option<Items<Sort>>, NoMemory>
+    fn sorts_on(
+        &mut self,
+        alloc: Global,
+        syms: &Symbols,
+    ) -> Result<Option<Items<Sort>>, NoMemory>
         ensures { IfOk result (λ o. MatchOption o (firsts.sorts_on syms.now None self.old.left ≡ None) (λ ss. firsts.sorts_on syms.now None self.old.left ≡ Some (got ss self.new.left))) }
     {
         let mut sorts = Items::new(alloc);

@@ -67,16 +67,14 @@ patterns_bare = patterns_same 0
 
 rest_bare : (args : List TermTree) (n : ℕ) → rest_at (map bare args) n ≡ rest_at args n
 rest_bare args n = ap (option_map (λ (v : Var). rest n v)) (ap (option_and_then last_of) (slice_get-map bare args n) ∙ go (slice_get args n))
-  where
-    rest : ℕ → Var → Rest
-    rest n v = record { place = n; var = v }
-
-    last_of : TermTree → Option Var
-    last_of t = last_var (term_vars t)
-
-    go : (o : Option TermTree) → option_and_then last_of (option_map bare o) ≡ option_and_then last_of o
-    go None = refl
-    go (Some t) = ap last_var (term_vars_bare t)
+    where
+      rest : ℕ → Var → Rest
+      rest n v = record { place = n; var = v }
+      last_of : TermTree → Option Var
+      last_of t = last_var (term_vars t)
+      go : (o : Option TermTree) → option_and_then last_of (option_map bare o) ≡ option_and_then last_of o
+      go None = refl
+      go (Some t) = ap last_var (term_vars_bare t)
 
 second_bare : (table : SymbolTable) (args : List TermTree) (ps qs : List Pattern) → second_turn table (map bare args) ps qs ≡ second_turn table args ps qs
 second_bare table args [] qs = refl
@@ -118,10 +116,9 @@ module _ (table : SymbolTable) (sorts : List Sort) (args : List TermTree) where
   pub arguments_bare : HasArguments table sorts (map bare args) ↔ HasArguments table sorts args
   arguments_bare =
       let sorted = both_each (IsSorted table) (IsSorted table) bare args (sorted_bare table) in
-      let flat = both_each IsFlat IsFlat bare args flat_bare in (
-        (λ h. record { sorted = sorted.0 h.sorted; of_sorts = sym (sorts_bare table args) ∙ h.of_sorts; flat = flat.0 h.flat; numbered = subst AreNumbered (vars_bare args) h.numbered }),
-        (λ h. record { sorted = sorted.1 h.sorted; of_sorts = sorts_bare table args ∙ h.of_sorts; flat = flat.1 h.flat; numbered = subst AreNumbered (sym (vars_bare args)) h.numbered }),
-      )
+      let flat = both_each IsFlat IsFlat bare args flat_bare in
+      ((λ h. record { sorted = sorted.0 h.sorted; of_sorts = sym (sorts_bare table args) ∙ h.of_sorts; flat = flat.0 h.flat; numbered = subst AreNumbered (vars_bare args) h.numbered }),
+      (λ h. record { sorted = sorted.1 h.sorted; of_sorts = sorts_bare table args ∙ h.of_sorts; flat = flat.1 h.flat; numbered = subst AreNumbered (sym (vars_bare args)) h.numbered }))
 
 module _ (own : SymId) where
   with_bare : (args : List TermTree) (n : ℕ) (t : TermTree) (o : Option TermTree) → slice_get args n ≡ o → option_map bare o ≡ Some t → (u : TermTree) × (slice_get args n ≡ Some u) × (bare u ≡ t)
