@@ -17,7 +17,7 @@ use Rattle.syn_model.specs.BareTrees.{bare_decl}
 use Rattle.syn_model.specs.Clauses.{HasArguments}
 use Rattle.syn_model.specs.Declaring.{IsTheory, MayFunClause, MayRelClause}
 use Rattle.syn_model.specs.Tables.{IsDeclared, table_of}
-use Rattle.syn_expr.specs.Told.{CanWriteAll}
+use Rattle.syn_form.specs.Writing.{CanWriteAll}
 use Rattle.syn_files.specs.Printed.{IsMark, IsWithinLimit, fun_clause_text, in_brackets_text, named_by, rel_clause_text}
 use Rattle.syn_files.specs.TheoryLines.{file_scope, heading_name}
 use Rattle.syn_files.specs.inner.Entries.{IsSmall}

@@ -1,24 +1,27 @@
 -- The printed lines of a theory lead, one after another, to the theory with its places left out.
-use Rattle.std.proofs.Common.{◌≡◌, ℕ, List, [], ◌∷◌, ◌++◌, All, Option, None, Some, codes, map, refl, sym, ap, subst, arith, append_assoc}
+use Rattle.std.proofs.Common.{◌≡◌, ℕ, List, [], ◌∷◌, ◌++◌, All, Option, None, Some, codes, map, refl, sym, ap, subst, arith, append_assoc, true, append-nil, ◌∙◌}
+use Rattle.std.specs.List.{flat_map}
 use Rattle.std.proofs.lemmas.List.{map-append}
-use Rattle.std.proofs.lemmas.List.Elements.{All-from_recursion, All-head}
+use Rattle.std.proofs.lemmas.List.Elements.{All-from_recursion, All-head, All-nil}
 use mathlib.Core.Logic.{inl}
 use Rattle.syn_term.specs.Names.{IsName, reserved}
 use Rattle.syn_form.specs.Grammar.{spelling}
 use Rattle.syn_expr.proofs.Puts.{spelled_alone, token_words, word_then_space}
-use Rattle.syn_lex.specs.Stepping.{Lead, Step}
+use Rattle.syn_lex.specs.Stepping.{IsTextOf, Lead, Step}
+use Rattle.syn_lex.specs.TextLines.{Without, with_feed}
 use Rattle.syn_form.proofs.Owned.{All-left, All-right}
 use Rattle.syn_model.specs.declared.decl.Decl.{Decl}
 use Rattle.syn_model.specs.declared.decl.Decl.TheVariants as decl
-use Rattle.syn_model.specs.BareTrees.{bare_decl}
+use Rattle.syn_model.specs.BareTrees.{bare_decl, bare_theory_tree}
 use Rattle.syn_model.specs.Declaring.{IsTheory, MayDeclare, nothing, one_more}
+use Rattle.syn_model.specs.Headings.{is_whole}
 use Rattle.syn_model.specs.Tables.{table_of}
 use Rattle.syn_model.specs.Theories.{TheoryTree, bare_theory}
-use Rattle.syn_model.proofs.BareDeclaring.{may_declare_bare}
-use Rattle.syn_expr.specs.Told.{CanWriteAll}
+use Rattle.syn_model.proofs.BareDeclaring.{may_declare_bare, whole_bare}
+use Rattle.syn_form.specs.Writing.{CanWriteAll}
 use Rattle.syn_files.specs.Printed.{IsWithinLimit, line_vars, named_by, own_after, printed_decl}
-use Rattle.syn_files.specs.TheoryLines.{TheoryLine, TheoryState, declared, file_scope, named}
-use Rattle.syn_files.specs.inner.Entries.{IsNamedLine, IsSmallMark, NamedLines}
+use Rattle.syn_files.specs.TheoryLines.{IsWholeTheory, TheoryLine, TheoryState, declared, file_scope, named}
+use Rattle.syn_files.specs.inner.Entries.{IsNamedLine, IsNamedTheory, IsSmallMark, NamedLines}
 use Rattle.syn_files.proofs.ClauseLines.{fun_clause_line, rel_clause_line}
 use Rattle.syn_files.proofs.NamelessLines.{axiom_line, fun_line, list_line, mono_line, rel_line, tuple_line}
 use Rattle.syn_files.proofs.OrderLines.{order_line}
@@ -91,3 +94,20 @@ lines_lead name _ more (one_more ds d before may) written limits lines h =
     subst (λ (z : List (List ℕ)). Lead TheoryLine (Some (bare_theory name)) z (bare_state name (ds ++ d ∷ []))) (sym p.are)
     (subst (Lead TheoryLine (Some (bare_theory name)) (p.front ++ p.line ∷ [])) state
     (lead_more TheoryLine (Some (bare_theory name)) (bare_state name ds) (Some (record { name = name; decls = map bare_decl ds ++ bare_decl d ∷ [] })) p.front p.line front step))
+
+-- where no line has a line feed, what is printed for a theory reads back
+pub printed_reads_back : (t : TheoryTree) (text : List ℕ) (h : IsNamedTheory t text) → IsName t.name → IsTheory t.decls → ((es : List Decl) → IsTheory es → CanWriteAll (file_scope (table_of es) [])) → All IsWithinLimit t.decls → is_whole t.decls ≡ true → All (Without 10) ((codes "theory " ++ t.name) ∷ h.lines) → IsTextOf TheoryLine None IsWholeTheory text (Some (bare_theory_tree t))
+printed_reads_back t text h name_ok theory written limits whole clean = record {
+  lines = (codes "theory " ++ t.name) ∷ h.lines;
+  cut = record {
+    is = append-nil (flat_map with_feed ((codes "theory " ++ t.name) ∷ h.lines)) ∙ sym h.is;
+    clean = clean;
+    open_clean = All-nil (λ (c : ℕ). c ≡ 10 → ⊥);
+  };
+  led = (
+    Some (bare_theory t.name),
+    title_led t.name name_ok,
+    lines_lead t.name t.decls [] theory written limits h.lines (subst (λ (ds : List Decl). NamedLines ds [] t.decls h.lines) (sym (append-nil t.decls)) h.each),
+  );
+  whole = whole_bare t.decls ∙ whole;
+}

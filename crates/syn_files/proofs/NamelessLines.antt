@@ -19,7 +19,7 @@ use Rattle.syn_model.specs.BareTrees.{bare_decl}
 use Rattle.syn_model.specs.Declaring.{AsksHead, GivesFor, IsMono, IsTheory, MayAxiom, MayMono}
 use Rattle.syn_model.specs.Tables.{fun_symbol, rel_symbol, table_of}
 use Rattle.syn_model.proofs.BareDeclaring.{table_bare}
-use Rattle.syn_expr.specs.Told.{CanWriteAll}
+use Rattle.syn_form.specs.Writing.{CanWriteAll}
 use Rattle.syn_expr.proofs.Told.{IsOver}
 use Rattle.syn_files.specs.Printed.{IsWithinLimit, axiom_text, fun_text, given_text, in_brackets_text, list_sort_text, mono_text, rel_text, sort_texts, symbol_text, tuple_sort_text}
 use Rattle.syn_files.specs.TheoryLines.{direction, file_scope}

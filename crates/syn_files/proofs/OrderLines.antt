@@ -21,7 +21,7 @@ use Rattle.syn_model.specs.BareTrees.{bare_decl}
 use Rattle.syn_model.specs.Declaring.{IsNumberedIn, IsTheory, MayDeclare}
 use Rattle.syn_model.specs.Heads.{IsNewName}
 use Rattle.syn_model.specs.Tables.{IsDeclared, order_symbol, table_after, table_of}
-use Rattle.syn_expr.specs.Told.{CanWriteAll}
+use Rattle.syn_form.specs.Writing.{CanWriteAll}
 use Rattle.syn_files.specs.Printed.{IsMark, IsWithinLimit, in_brackets_text, name_by, named_by, named_text, order_text}
 use Rattle.syn_files.specs.TheoryLines.{file_scope, numbered}
 use Rattle.syn_files.specs.inner.Entries.{IsSmall}
