@@ -7,8 +7,8 @@ ghost use Rattle.syn_model.specs.Tables.{IsDeclared};
 ghost use Rattle.syn_files.specs.Printed.{AreFree, IsMark, name_by, named_by};
 ghost use Rattle.syn_files.specs.inner.Entries.{IsSmall, IsSmallMark};
 
-use syn_expr::{put, put_number};
 use std::alloc::Global;
+use syn_expr::{put, put_number};
 use syn_model::Theory;
 use syn_term::{NoMemory, Var};
 

@@ -6,10 +6,12 @@ ghost use Rattle.syn_files.specs.Printed.{axiom_text, clause_front, comma_list, 
 ghost use Rattle.syn_files.specs.TheoryLines.{direction, file_scope, numbered};
 ghost use Rattle.syn_files.specs.inner.Entries.{entry_text};
 
-use syn_expr::{put, put_number, separator, sort_name, symbol_name};
 use sqlite_items::Items;
 use std::alloc::Global;
-use syn_expr::{Scope, print_form, print_out, print_qform, print_term};
+use syn_expr::{
+    Scope, print_form, print_out, print_qform, print_term, put, put_number, separator, sort_name,
+    symbol_name,
+};
 use syn_form::{Form, Mono, Out, QForm};
 use syn_term::{NoMemory, Sort, SymId, Symbols, Term, Var};
 
