@@ -26,6 +26,7 @@ pub mod Stands
 pub mod Readers
 pub mod TextReads
 pub mod TreeReadings
+pub mod WordPuts
 pub mod Puts
 pub mod TermPuts
 pub mod FormPuts

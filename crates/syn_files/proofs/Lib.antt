@@ -13,3 +13,15 @@ pub mod LoopLaws
 pub mod NumberLaws
 pub mod MonoLaws
 pub mod ParamLaws
+pub mod Spellings
+pub mod TheoryTables
+pub mod SimpleBack
+pub mod ExprBack
+pub mod ClauseBack
+pub mod OrderBack
+pub mod MonoBack
+pub mod NamelessLines
+pub mod NamedVars
+pub mod ClauseLines
+pub mod OrderLines
+pub mod LinesLead

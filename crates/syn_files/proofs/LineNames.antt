@@ -1,18 +1,18 @@
 -- The names of a printed line's variables: each is a name, no two are one, and by them the variables are told apart.
-use Rattle.std.proofs.Common.{◌≡◌, ◌⊎◌, inl, inr, ℕ, zero, suc, ◌+◌, ◌<◌, ◌≤◌, ◌^◌, Bool, true, false, ◌&&◌, nat_eq, List, [], ◌∷◌, ◌++◌, All, Contains, IfSome, Option, None, Some, codes, decimal, length, map, slice_get, get_or, refl, sym, ◌∙◌, ap, subst, arith, length-append}
+use Rattle.std.proofs.Common.{◌≡◌, ℕ, zero, suc, ◌+◌, ◌<◌, ◌≤◌, ◌^◌, Bool, true, false, ◌&&◌, nat_eq, List, [], ◌∷◌, ◌++◌, All, Contains, Option, None, Some, codes, decimal, length, map, slice_get, get_or, refl, sym, ◌∙◌, ap, subst, arith, length-append}
 use Rattle.std.specs.Int.{IsInRange}
 use Rattle.std.specs.List.{list_all, range_with_len}
 use Rattle.std.specs.Option.{option_map}
 use Rattle.std.specs.Str.{IsAscii, chars}
 use Rattle.std.proofs.lemmas.Bool.Decides.{nat_tests}
 use Rattle.std.proofs.lemmas.Fmt.{decimal_injective, decimal_is_IsNumeral, length-decimal-le}
-use Rattle.std.proofs.lemmas.List.{append_cancel_left, length-map}
-use Rattle.std.proofs.lemmas.List.Elements.{All-append, All-cons, All-contains, All-from_recursion, All-from_get_or, All-head, All-map, All-nil, All-tail, All-weaker}
+use Rattle.std.proofs.lemmas.List.{append_cancel_left}
+use Rattle.std.proofs.lemmas.List.Elements.{All-append, All-cons, All-contains, All-from_recursion, All-from_get_or, All-head, All-nil, All-tail}
 use Rattle.std.proofs.lemmas.List.FromFn.{get_or-range_with_len}
 use Rattle.std.proofs.lemmas.Option.{get_or_from_slice_get, slice_get-get_or, slice_get-map, slice_get_within}
 use Rattle.std.proofs.lemmas.Str.Parse.{digit_at}
 use Rattle.std.proofs.lemmas.Str.{IsUtf8-from_ascii, chars-IsAscii}
-use Rattle.unicode_ident.specs.Ident.{is_xid_start, is_xid_continue}
+use Rattle.unicode_ident.specs.Ident.{is_xid_continue}
 use Rattle.unicode_ident.proofs.IdentLemmas.{is_xid_start-ascii, is_xid_continue-ascii}
 use Rattle.syn_term.specs.declared.sorts.Sort.{Sort}
 use Rattle.syn_term.specs.declared.sorts.Var.{Var}
@@ -27,7 +27,7 @@ use Rattle.syn_files.specs.TheoryLines.{numbered}
 use Rattle.syn_files.specs.inner.Entries.{IsSmall}
 
 -- a byte that names are made of
-abbrev IsPart : ℕ → Type 0
+abbrev pub IsPart : ℕ → Type 0
 IsPart b = (b < 128) × (is_name_byte b ≡ true)
 
 abbrev StartsOther : List ℕ → Type 0
@@ -39,13 +39,13 @@ not_reserved bs h =
     let e : nat_eq 120 120 ≡ false = All-contains StartsOther reserved (120 ∷ bs) (All-from_recursion StartsOther reserved (refl, (refl, (refl, (refl, (refl, (refl, (refl, (refl, (refl, (refl, (refl, (refl, (refl, (refl, (refl, tt)))))))))))))))) h in
     absurd (cc)
 
-all_continue : (bs : List ℕ) → All IsPart bs → list_all is_xid_continue bs ≡ true
+pub all_continue : (bs : List ℕ) → All IsPart bs → list_all is_xid_continue bs ≡ true
 all_continue [] h = refl
 all_continue (b ∷ bs) h =
     let p = All-head IsPart b bs h in
     ap (λ (z : Bool). z && list_all is_xid_continue bs) (is_xid_continue-ascii b p.0 ∙ p.1) ∙ all_continue bs (All-tail IsPart b bs h)
 
-low_bytes : (bs : List ℕ) → All IsPart bs → IsAscii bs
+pub low_bytes : (bs : List ℕ) → All IsPart bs → IsAscii bs
 low_bytes [] h i = omega arith
 low_bytes (b ∷ bs) h zero = (All-head IsPart b bs h).0
 low_bytes (b ∷ bs) h (suc i) = low_bytes bs (All-tail IsPart b bs h) i

@@ -1,5 +1,5 @@
 -- What printers put, piece by piece.
-use Rattle.std.proofs.Common.{◌≡◌, ℕ, ◌+◌, All, Option, ◌<◌, ◌≤◌, List, [], ◌∷◌, ◌++◌, String, string_bytes, codes, length, fold, map, take, get_or, refl, sym, ◌∙◌, ap, subst, arith, append_assoc, append-nil}
+use Rattle.std.proofs.Common.{◌≡◌, ℕ, ◌+◌, All, Option, ◌<◌, ◌≤◌, List, [], ◌∷◌, ◌++◌, String, codes, length, fold, map, take, get_or, refl, sym, ◌∙◌, ap, subst, arith, append_assoc, append-nil}
 use Rattle.std.specs.List.{flat_map}
 use Rattle.std.proofs.lemmas.List.{map-append, take_all, take_more, length-take-le}
 use Rattle.std.proofs.lemmas.List.Elements.{All-more}
@@ -85,8 +85,7 @@ pub lines_go : (all ds : List Decl) (i : ℕ) (e d : Decl) (own after old mid ne
 lines_go all ds i e d own after old mid new same lt is so_far owns p next =
     let within : i < length all = subst (λ (z : List Decl). i < length z) same lt in
     let here : d ≡ get_or all i e = subst (λ (z : List Decl). d ≡ get_or z i e) same is in
-    let more : take (i + 1) all ≡ take i all ++ d ∷ [] = take_more all i e within ∙ ap (λ (z : Decl). take i all ++ z ∷ []) (sym here) in
-    (
+    let more : take (i + 1) all ≡ take i all ++ d ∷ [] = take_more all i e within ∙ ap (λ (z : Decl). take i all ++ z ∷ []) (sym here) in (
       subst (λ (z : List Decl). PutsLines all z old new) (sym more) (line_more all (take i all) d own old mid new so_far owns p),
       next ∙ (ap (λ (z : List ℕ). own_after z d) owns ∙ (sym (own_more [] (take i all) d) ∙ ap (own_of []) (sym more))),
     )

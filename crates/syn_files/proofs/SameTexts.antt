@@ -1,5 +1,5 @@
 -- What is printed over a table is printed over each that it begins: where a tree is one of the smaller table, its text is the same.
-use Rattle.std.proofs.Common.{◌≡◌, ℕ, zero, suc, ◌<◌, Bool, cond, List, [], ◌∷◌, ◌++◌, All, Option, Some, codes, map, length, slice_get, get_or, refl, sym, ◌∙◌, ap, subst, arith}
+use Rattle.std.proofs.Common.{◌≡◌, ℕ, zero, suc, ◌<◌, List, [], ◌∷◌, ◌++◌, All, Option, Some, codes, map, length, slice_get, get_or, refl, sym, ◌∙◌, ap, subst, arith}
 use Rattle.std.specs.Option.{option_map_or}
 use Rattle.std.proofs.lemmas.List.Elements.{All-head, All-nil, All-tail}
 use Rattle.std.proofs.lemmas.Simd.{map-map}
@@ -20,13 +20,12 @@ use Rattle.syn_term.proofs.Trees.{fold-App, fold-Var}
 use Rattle.syn_form.specs.declared.trees.Binder.{Binder}
 use Rattle.syn_form.specs.declared.trees.Out.{every_here-Out}
 use Rattle.syn_form.specs.declared.trees.Out.TheVariants as out
-use Rattle.syn_form.specs.declared.trees.Out.TheViews as out_view
 use Rattle.syn_form.specs.declared.trees.QForm.TheOpen.{QForm-F}
 use Rattle.syn_form.specs.declared.trees.QForm.TheVariants as qform
 use Rattle.syn_form.specs.declared.trees.QForm.TheViews as qview
 use Rattle.syn_form.specs.Plain.{IsAtom, IsFormed, IsFormedOut, IsSorted, PlainOutNode, SortedNode}
 use Rattle.syn_form.specs.PlainQuantified.{IsFormedQ, binders_of, binders_step}
-use Rattle.syn_form.specs.Printing.{Printed, PrintedForm, applied_text, atom_text, inner, joined, loose_text, name_of, print_form_step, print_out_step, print_qform_step, print_step, printed_form, printed_out, printed_qform, printed_term, printing_of, printing_of_form, printing_of_qform, quantified_text, sort_text, symbol_printed, tight_text}
+use Rattle.syn_form.specs.Printing.{Printed, PrintedForm, applied_text, atom_text, inner, joined, loose_text, name_of, print_out_step, print_qform_step, print_step, printed_form, printed_out, printed_term, printing_of, printing_of_qform, quantified_text, sort_text, symbol_printed, tight_text}
 use Rattle.syn_form.specs.Quantified.{as_qform}
 use Rattle.syn_form.specs.Scopes.{Named, TextScope}
 use Rattle.syn_form.specs.Trees.{FormTree, OutTree, QFormTree, all_of}

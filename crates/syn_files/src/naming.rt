@@ -7,8 +7,8 @@ ghost use Rattle.syn_model.specs.Tables.{IsDeclared};
 ghost use Rattle.syn_files.specs.Printed.{AreFree, IsMark, name_by, named_by};
 ghost use Rattle.syn_files.specs.inner.Entries.{IsSmall, IsSmallMark};
 
-use syn_expr::{put, put_number};
 use std::alloc::Global;
+use syn_expr::{put, put_number};
 use syn_model::Theory;
 use syn_term::{NoMemory, Var};
 
@@ -28,12 +28,7 @@ fn name_by(alloc: Global, mark: Option<u32>, number: u32) -> Result<String, NoMe
 }
 
 /// Whether the theory does not declare the name that the variable with this number gets.
-fn is_free(
-    alloc: Global,
-    theory: &Theory,
-    mark: Option<u32>,
-    number: u32,
-) -> Result<bool, NoMemory>
+fn is_free(alloc: Global, theory: &Theory, mark: Option<u32>, number: u32) -> Result<bool, NoMemory>
     ensures { IfOk result (λ b. IsTrue b ↔ (IsDeclared (theory.now).decls (name_by mark number) → ⊥)) }
 {
     let name = name_by(alloc, mark, number)?;

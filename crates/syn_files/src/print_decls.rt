@@ -6,10 +6,12 @@ ghost use Rattle.syn_files.specs.Printed.{axiom_text, clause_front, comma_list, 
 ghost use Rattle.syn_files.specs.TheoryLines.{direction, file_scope, numbered};
 ghost use Rattle.syn_files.specs.inner.Entries.{entry_text};
 
-use syn_expr::{put, put_number, separator, sort_name, symbol_name};
 use sqlite_items::Items;
 use std::alloc::Global;
-use syn_expr::{Scope, print_form, print_out, print_qform, print_term};
+use syn_expr::{
+    Scope, print_form, print_out, print_qform, print_term, put, put_number, separator, sort_name,
+    symbol_name,
+};
 use syn_form::{Form, Mono, Out, QForm};
 use syn_term::{NoMemory, Sort, SymId, Symbols, Term, Var};
 
@@ -68,12 +70,7 @@ fn put_sorts(out: &mut String, syms: &Symbols, sorts: &[Sort]) -> Result<(), NoM
 }
 
 /// Puts the terms with commas between.
-fn put_terms(
-    alloc: Global,
-    out: &mut String,
-    scope: &Scope,
-    terms: &[Term],
-) -> Result<(), NoMemory>
+fn put_terms(alloc: Global, out: &mut String, scope: &Scope, terms: &[Term]) -> Result<(), NoMemory>
     ensures { OnOk result (string_bytes out.new ≡ string_bytes out.old ++ comma_list (map (printed_term (spoken scope.now)) terms.now)) }
 {
     for (i, t) in terms.iter().enumerate() {
@@ -93,11 +90,7 @@ fn put_parameter(out: &mut String, syms: &Symbols, named: &(String, Var)) -> Res
 }
 
 /// Puts the variables with their sorts, commas between.
-fn put_parameters(
-    out: &mut String,
-    syms: &Symbols,
-    names: &[(String, Var)],
-) -> Result<(), NoMemory>
+fn put_parameters(out: &mut String, syms: &Symbols, names: &[(String, Var)]) -> Result<(), NoMemory>
     ensures { OnOk result (string_bytes out.new ≡ string_bytes out.old ++ comma_list (map (named_text syms.now) (listed names.now))) }
 {
     for (i, named) in names.iter().enumerate() {

@@ -11,10 +11,9 @@ use crate::print_decls::{
     numbered, put_axiom, put_fun, put_fun_clause, put_list_sort, put_mono, put_order, put_rel,
     put_rel_clause, put_tuple_sort,
 };
-use syn_expr::put;
 use sqlite_items::Items;
 use std::alloc::Global;
-use syn_expr::Scope;
+use syn_expr::{Scope, put};
 use syn_form::put_all_vars;
 use syn_model::{Decl, Theory};
 use syn_term::{NoMemory, Symbols, Term, Var};
@@ -74,14 +73,7 @@ fn put_decl(
             nil,
             cons,
             item,
-        } => put_list_sort(
-            out,
-            syms,
-            name.as_str(),
-            nil.as_str(),
-            cons.as_str(),
-            *item,
-        ),
+        } => put_list_sort(out, syms, name.as_str(), nil.as_str(), cons.as_str(), *item),
         Decl::TupleSort { name, make, parts } => {
             put_tuple_sort(out, syms, name.as_str(), make.as_str(), parts.as_slice())
         }
