@@ -17,10 +17,11 @@ use crate::form_parts::{
 };
 use crate::lookups::binder_var;
 use crate::names::{Inside, within};
+use crate::pairs::both_shared;
 use sqlite_items::Items;
 use std::alloc::Global;
 use syn_form::{Binder, BinderSyntax, FormSyntax, QForm, Quantifier};
-use syn_term::{Bank, NoMemory, Shared, Text};
+use syn_term::{Bank, NoMemory, Text};
 
 /// The formula that the syntax tree stands for, and the number of the next binder; None where a name
 /// isn't there or may not be bound, or sorts don't fit. The binders are numbered from `next` on. The
@@ -42,26 +43,32 @@ pub(crate) fn elaborate_form(
     match syntax {
         FormSyntax::True => Ok(Some((QForm::True, next))),
         FormSyntax::False => Ok(Some((QForm::False, next))),
-        FormSyntax::Atom(name, args) => {
-            let read = elaborate_atom(alloc, bank, place, name, args.as_slice())?;
-            Ok(steady(read, next))
-        }
-        FormSyntax::Equal(s, t) => {
-            let read = elaborate_equality(alloc, bank, place, s.get(), t.get())?;
-            Ok(steady(read, next))
-        }
-        FormSyntax::Not(a) => {
-            let read = elaborate_form(alloc, bank, place, next, a.get())?;
-            negated(alloc, read)
-        }
-        FormSyntax::And(all) => {
-            let read = elaborate_forms(alloc, bank, place, next, all.as_slice())?;
-            conjunction(alloc, read)
-        }
-        FormSyntax::Or(all) => {
-            let read = elaborate_forms(alloc, bank, place, next, all.as_slice())?;
-            disjunction(alloc, read)
-        }
+        FormSyntax::Atom(name, args) => match elaborate_atom(
+            alloc,
+            bank,
+            place,
+            name,
+            args.as_slice(),
+        ) {
+            Ok(read) => Ok(steady(read, next)),
+            Err(error) => Err(error),
+        },
+        FormSyntax::Equal(s, t) => match elaborate_equality(alloc, bank, place, s.get(), t.get()) {
+            Ok(read) => Ok(steady(read, next)),
+            Err(error) => Err(error),
+        },
+        FormSyntax::Not(a) => match elaborate_form(alloc, bank, place, next, a.get()) {
+            Ok(read) => negated(alloc, read),
+            Err(error) => Err(error),
+        },
+        FormSyntax::And(all) => match elaborate_forms(alloc, bank, place, next, all.as_slice()) {
+            Ok(read) => conjunction(alloc, read),
+            Err(error) => Err(error),
+        },
+        FormSyntax::Or(all) => match elaborate_forms(alloc, bank, place, next, all.as_slice()) {
+            Ok(read) => disjunction(alloc, read),
+            Err(error) => Err(error),
+        },
         FormSyntax::Implies(a, b) => implication(alloc, bank, place, next, a.get(), b.get()),
         FormSyntax::BothWays(a, b) => both_ways(alloc, bank, place, next, a.get(), b.get()),
         FormSyntax::Quantified(quantifier, binders, a) => {
@@ -129,12 +136,20 @@ fn implication(
     let Some((left, after)) = elaborate_form(alloc, bank, place, next, a)? else {
         return Ok(None);
     };
-    let left = Shared::new(alloc, left)?;
-    let Some((right, last)) = elaborate_form(alloc, bank, place, after, b)? else {
-        return Ok(None);
-    };
-    let right = Shared::new(alloc, right)?;
-    Ok(Some((QForm::Implies(left, right), last)))
+    match elaborate_form(alloc, bank, place, after, b) {
+        Ok(Some((right, last))) => match both_shared(alloc, left, right) {
+            Ok((left, right)) => Ok(Some((QForm::Implies(left, right), last))),
+            Err(error) => Err(error),
+        },
+        Ok(None) => {
+            drop(left);
+            Ok(None)
+        }
+        Err(error) => {
+            drop(left);
+            Err(error)
+        }
+    }
 }
 
 /// The implications both ways, each with binders of its own; rows have none.
@@ -201,9 +216,19 @@ fn quantified(
             let name = Text::from_str(alloc, binder.name.as_str())?;
             let binder = Binder { var, name };
             let place = within(&*place, &binder);
-            match quantified(alloc, bank, &place, after, quantifier, rest, a)? {
-                None => Ok(None),
-                Some((f, last)) => Ok(Some((quantify(alloc, quantifier, binder, f)?, last))),
+            match quantified(alloc, bank, &place, after, quantifier, rest, a) {
+                Ok(Some((f, last))) => match quantify(alloc, quantifier, binder, f) {
+                    Ok(f) => Ok(Some((f, last))),
+                    Err(error) => Err(error),
+                },
+                Ok(None) => {
+                    drop(binder);
+                    Ok(None)
+                }
+                Err(error) => {
+                    drop(binder);
+                    Err(error)
+                }
             }
         }
     }

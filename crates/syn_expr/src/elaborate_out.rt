@@ -13,6 +13,7 @@ ghost use Rattle.syn_expr.specs.inner.Spending.{Spends};
 use crate::elaborate_form::elaborate_form;
 use crate::elaborate_term::elaborate_term;
 use crate::names::Inside;
+use crate::pairs::both_shared;
 use crate::unquantified::without_quantifiers;
 use std::alloc::Global;
 use syn_form::{Form, FormSyntax, Out, OutSyntax, are_of_one_sort, given_sort};
@@ -42,16 +43,32 @@ pub(crate) fn elaborate_plain(
     }
 }
 
-/// The choice between two arms; None where they don't give terms of one sort.
+/// The choice between two arms; None where they don't give terms of one sort. The one error is want
+/// of memory.
 #[tactic(auto, using(crate::proofs::Owning::owning_outs))]
-fn choice(syms: &Symbols, f: Shared<Form>, u: Shared<Out>, v: Shared<Out>) -> Option<Out>
-    ensures tree { option_map bare_out result ≡ elaboration.sorted_choice syms.now (bare_form f) (bare_out u) (bare_out v) }
-    ensures belongs { (b : Kept) → FormBelongs b f → OutBelongs b u → OutBelongs b v → IfSome result (OutBelongs b) }
+fn choice(alloc: Global, syms: &Symbols, f: Form, u: Out, v: Out) -> Result<Option<Out>, NoMemory>
+    ensures tree { IfOk result (λ o. option_map bare_out o ≡ elaboration.sorted_choice syms.now (bare_form f) (bare_out u) (bare_out v)) }
+    ensures belongs { (b : Kept) → FormBelongs b f → OutBelongs b u → OutBelongs b v → IfOk result (λ o. IfSome o (OutBelongs b)) }
 {
-    if are_of_one_sort(given_sort(syms, u.get()), given_sort(syms, v.get())) {
-        Some(Out::If(f, u, v))
-    } else {
-        None
+    if !are_of_one_sort(given_sort(syms, &u), given_sort(syms, &v)) {
+        drop(f);
+        drop(u);
+        drop(v);
+        return Ok(None);
+    }
+    match both_shared(alloc, u, v) {
+        Ok((u, v)) => match Shared::new(alloc, f) {
+            Ok(f) => Ok(Some(Out::If(f, u, v))),
+            Err(_) => {
+                drop(u);
+                drop(v);
+                Err(NoMemory)
+            }
+        },
+        Err(error) => {
+            drop(f);
+            Err(error)
+        }
     }
 }
 
@@ -78,16 +95,29 @@ pub(crate) fn elaborate_out(
             let Some(f) = elaborate_plain(alloc, bank, place, f)? else {
                 return Ok(None);
             };
-            let f = Shared::new(alloc, f)?;
-            let Some(u) = elaborate_out(alloc, bank, place, u.get())? else {
-                return Ok(None);
-            };
-            let u = Shared::new(alloc, u)?;
-            let Some(v) = elaborate_out(alloc, bank, place, v.get())? else {
-                return Ok(None);
-            };
-            let v = Shared::new(alloc, v)?;
-            Ok(choice(place.syms, f, u, v))
+            match elaborate_out(alloc, bank, place, u.get()) {
+                Ok(Some(u)) => match elaborate_out(alloc, bank, place, v.get()) {
+                    Ok(Some(v)) => choice(alloc, place.syms, f, u, v),
+                    Ok(None) => {
+                        drop(f);
+                        drop(u);
+                        Ok(None)
+                    }
+                    Err(error) => {
+                        drop(f);
+                        drop(u);
+                        Err(error)
+                    }
+                },
+                Ok(None) => {
+                    drop(f);
+                    Ok(None)
+                }
+                Err(error) => {
+                    drop(f);
+                    Err(error)
+                }
+            }
         }
     }
 }

@@ -13,6 +13,7 @@ mod form_parts;
 mod limits;
 mod lookups;
 mod names;
+mod pairs;
 mod print_forms;
 mod print_outs;
 mod print_qforms;

@@ -1,7 +1,7 @@
 // The printer of formulas with quantifiers. A quantified formula inside another stands in brackets
 // too, and inside a quantifier its variable is printed by the name that the quantifier gives it.
 ghost use Rattle.std.specs.Prelude.{◌≡◌, ◌++◌, map, string_bytes, IfOk, OnOk};
-ghost use Rattle.syn_form.specs.Printing.{inner, joined, printed_qform, printing_of_qform};
+ghost use Rattle.syn_form.specs.Printing.{in_scope_of, inner, joined, printed_qform, printing_of_qform};
 ghost use Rattle.syn_expr.specs.Readable.{IsReadableQForm};
 ghost use Rattle.syn_form.specs.Texts.{IsQFormOf};
 ghost use Rattle.syn_form.specs.Quantified.{bare_qform};
@@ -61,14 +61,8 @@ fn put_qform(out: &mut String, place: &Inside, f: &QForm) -> Result<(), NoMemory
             put(out, IMPLIES)?;
             put_inner_qform(out, place, b.get())
         }
-        QForm::All(b, a) => {
-            put_binder(out, place, "all ", b)?;
-            put_inner_qform(out, &within(&*place, b), a.get())
-        }
-        QForm::Exists(b, a) => {
-            put_binder(out, place, "some ", b)?;
-            put_inner_qform(out, &within(&*place, b), a.get())
-        }
+        QForm::All(b, a) => put_quantified(out, place, "all ", b, a.get()),
+        QForm::Exists(b, a) => put_quantified(out, place, "some ", b, a.get()),
     }
 }
 
@@ -106,6 +100,21 @@ fn put_qform_chain(
         put_inner_qform(out, place, f)?;
     }
     Ok(())
+}
+
+/// Puts a quantified formula: its quantifier, and what stands under it.
+#[cycle(qforms)]
+fn put_quantified(
+    out: &mut String,
+    place: &Inside,
+    word: &str,
+    b: &Binder,
+    a: &QForm,
+) -> Result<(), NoMemory>
+    ensures { OnOk result (string_bytes out.new ≡ string_bytes out.old ++ (binder_text (spoken_at place.now) word.now b.now ++ inner (printing_of_qform a.now (in_scope_of (spoken_at place.now) b.now)))) }
+{
+    put_binder(out, place, word, b)?;
+    put_inner_qform(out, &within(&*place, b), a)
 }
 
 /// Puts a quantifier up to its formula: the word, the name, the sort and a stop.

@@ -1,14 +1,30 @@
 // Formulas with quantifiers that have none, as formulas without them. Terms are shared.
-ghost use Rattle.std.specs.Prelude.{◌≡◌, map, IfOk};
+ghost use Rattle.std.specs.Prelude.{◌≡◌, map, IfOk, Some};
 ghost use Rattle.std.specs.Option.{option_map};
+ghost use Rattle.syn_form.specs.declared.trees.Form.TheVariants as variant;
 ghost use Rattle.syn_form.specs.declared.trees.Form.TheViews as view;
 ghost use Rattle.syn_form.specs.Lists.{all_there};
 ghost use Rattle.syn_form.specs.Quantified.{unquantified};
 
+use crate::pairs::both_shared;
 use sqlite_items::Items;
 use std::alloc::Global;
 use syn_form::{Form, QForm};
-use syn_term::{NoMemory, Shared};
+use syn_term::{NoMemory, Shared, Term};
+
+/// The equality of the same terms.
+fn equality(s: &Term, t: &Term) -> Result<Option<Form>, NoMemory>
+    ensures { IfOk result (λ o. o ≡ Some (variant.Equal s.now t.now)) }
+{
+    let s = s.again()?;
+    match t.again() {
+        Ok(t) => Ok(Some(Form::Equal(s, t))),
+        Err(_) => {
+            drop(s);
+            Err(NoMemory)
+        }
+    }
+}
 
 /// The negation of the formula, where there is one.
 fn negation(alloc: Global, a: Option<Form>) -> Result<Option<Form>, NoMemory>
@@ -40,6 +56,16 @@ fn disjunction(alloc: Global, all: Option<Items<Form>>) -> Result<Option<Form>, 
     }
 }
 
+/// The implication from the first to the second.
+fn implication(alloc: Global, a: Form, b: Form) -> Result<Option<Form>, NoMemory>
+    ensures { IfOk result (λ o. o ≡ Some (view.Implies a b)) }
+{
+    match both_shared(alloc, a, b) {
+        Ok((a, b)) => Ok(Some(Form::Implies(a, b))),
+        Err(error) => Err(error),
+    }
+}
+
 /// The same formula as one without quantifiers; None where it has one.
 #[cycle(unquantified)]
 pub(crate) fn without_quantifiers(alloc: Global, f: &QForm) -> Result<Option<Form>, NoMemory>
@@ -48,8 +74,11 @@ pub(crate) fn without_quantifiers(alloc: Global, f: &QForm) -> Result<Option<For
     match f {
         QForm::True => Ok(Some(Form::True)),
         QForm::False => Ok(Some(Form::False)),
-        QForm::Atom(r, args) => Ok(Some(Form::Atom(*r, args.again()?))),
-        QForm::Equal(s, t) => Ok(Some(Form::Equal(s.again()?, t.again()?))),
+        QForm::Atom(r, args) => match args.again() {
+            Ok(args) => Ok(Some(Form::Atom(*r, args))),
+            Err(_) => Err(NoMemory),
+        },
+        QForm::Equal(s, t) => equality(s, t),
         QForm::Not(a) => negation(alloc, without_quantifiers(alloc, a.get())?),
         QForm::And(all) => conjunction(alloc, all_without(alloc, all.get().as_slice())?),
         QForm::Or(all) => disjunction(alloc, all_without(alloc, all.get().as_slice())?),
@@ -57,12 +86,17 @@ pub(crate) fn without_quantifiers(alloc: Global, f: &QForm) -> Result<Option<For
             let Some(a) = without_quantifiers(alloc, a.get())? else {
                 return Ok(None);
             };
-            let a = Shared::new(alloc, a)?;
-            let Some(b) = without_quantifiers(alloc, b.get())? else {
-                return Ok(None);
-            };
-            let b = Shared::new(alloc, b)?;
-            Ok(Some(Form::Implies(a, b)))
+            match without_quantifiers(alloc, b.get()) {
+                Ok(Some(b)) => implication(alloc, a, b),
+                Ok(None) => {
+                    drop(a);
+                    Ok(None)
+                }
+                Err(error) => {
+                    drop(a);
+                    Err(error)
+                }
+            }
         }
         QForm::All(_, _) | QForm::Exists(_, _) => Ok(None),
     }

@@ -1,4 +1,4 @@
-use Rattle.std.proofs.Common.{◌≡◌, ◌+◌, ◌*◌, ◌<◌, Some, ◌∙◌, subst, arith}
+use Rattle.std.proofs.Common.{◌≡◌, ◌+◌, ◌*◌, ◌<◌, None, Some, ◌∙◌, subst, arith}
 use Rattle.syn_term.specs.Bank.{Extends-trans}
 use Rattle.syn_form.specs.declared.syntax.FormSyntax.{FormSyntax}
 use Rattle.syn_form.specs.Elaboration.{elaborate_form}
@@ -29,27 +29,28 @@ elaborate_forms-loop-syntax-preserved t c =
 pub quantified-returns-in_default-clause-tree : goal.quantified-returns-in_default-clause-tree
 quantified-returns-in_default-clause-tree t c = not_bound (spoken_at c.args.place.now) c.args.quantifier _ _ (elaborate_form c.args.a.now) _ _ c.in-len1-up.len_at_least c.binder-item.is c.binder_var.ensures c.in_default.is
 
-pub quantified-returns-in-None-clause-tree : goal.quantified-returns-in-None-clause-tree
-quantified-returns-in-None-clause-tree t c =
+pub quantified-returns-in-Ok-None-clause-tree : goal.quantified-returns-in-Ok-None-clause-tree
+quantified-returns-in-Ok-None-clause-tree t c =
     let next : c.in-Some-checked_add.after ≡ c.args.next + 1 = omega (arith, c.in-Some-checked_add.ensures) in
+    let none : c.in-Ok-None.field-0 ≡ None = cc in
     none_inside (spoken_at c.args.place.now) c.args.quantifier _ _ (elaborate_form c.args.a.now) _ _ c.in-len1-up.len_at_least c.binder-item.is c.binder_var.ensures
-    _ _ _ _ _ c.in-Some.is (c.in_ok-name-in-len1-up.ensures ∙ c.as_str.ensures) c.within-place.ensures next c.in_ok-quantified-in-len1-up.ensures.tree c.in-None.is
+    _ _ _ _ _ c.in-Some.is (c.in_ok-name-in-len1-up.ensures ∙ c.as_str.ensures) c.within-place.ensures next c.in-Ok-None.ensures.tree none
 
-pub quantified-returns-in_ok-quantify-in-Some-2-clause-tree : goal.quantified-returns-in_ok-quantify-in-Some-2-clause-tree
-quantified-returns-in_ok-quantify-in-Some-2-clause-tree t c =
+pub quantified-returns-in-Ok-clause-tree : goal.quantified-returns-in-Ok-clause-tree
+quantified-returns-in-Ok-clause-tree t c =
     let next : c.in-Some-checked_add.after ≡ c.args.next + 1 = omega (arith, c.in-Some-checked_add.ensures) in
-    let read : c.in_ok-quantified-in-len1-up.field-0 ≡ Some (both c.in-Some-2.f c.in-Some-2.last) = cc in
+    let read : c.in-Ok-Some.field-0 ≡ Some (both c.in-Ok-Some.f c.in-Ok-Some.last) = cc in
     put_under (spoken_at c.args.place.now) c.args.quantifier _ _ (elaborate_form c.args.a.now) _ _ c.in-len1-up.len_at_least c.binder-item.is c.binder_var.ensures
-    _ _ _ _ _ c.in-Some.is (c.in_ok-name-in-len1-up.ensures ∙ c.as_str.ensures) c.within-place.ensures next c.in_ok-quantified-in-len1-up.ensures.tree _ _ _ read c.in_ok-quantify-in-Some-2.ensures
+    _ _ _ _ _ c.in-Some.is (c.in_ok-name-in-len1-up.ensures ∙ c.as_str.ensures) c.within-place.ensures next c.in-Ok-Some.ensures.tree _ _ _ read c.in-Ok.ensures
 
-pub elaborate_form-returns-in_ok-read-in-Not-clause-belongs : goal.elaborate_form-returns-in_ok-read-in-Not-clause-belongs
-elaborate_form-returns-in_ok-read-in-Not-clause-belongs t c = c.negated.ensures.belongs _ c.in_ok-read-in-Not.ensures.belongs
+pub elaborate_form-returns-in-Ok-elaborate_form-clause-belongs : goal.elaborate_form-returns-in-Ok-elaborate_form-clause-belongs
+elaborate_form-returns-in-Ok-elaborate_form-clause-belongs t c = c.negated.ensures.belongs _ c.in-Ok-elaborate_form.ensures.belongs
 
-pub elaborate_form-returns-in_ok-read-in-And-clause-belongs : goal.elaborate_form-returns-in_ok-read-in-And-clause-belongs
-elaborate_form-returns-in_ok-read-in-And-clause-belongs t c = c.conjunction.ensures.belongs _ c.in_ok-read-in-And.ensures.belongs
+pub elaborate_form-returns-in-Ok-elaborate_forms-clause-belongs : goal.elaborate_form-returns-in-Ok-elaborate_forms-clause-belongs
+elaborate_form-returns-in-Ok-elaborate_forms-clause-belongs t c = c.conjunction.ensures.belongs _ c.in-Ok-elaborate_forms.ensures.belongs
 
-pub elaborate_form-returns-in_ok-read-in-Or-clause-belongs : goal.elaborate_form-returns-in_ok-read-in-Or-clause-belongs
-elaborate_form-returns-in_ok-read-in-Or-clause-belongs t c = c.disjunction.ensures.belongs _ c.in_ok-read-in-Or.ensures.belongs
+pub elaborate_form-returns-in-Ok-elaborate_forms-2-clause-belongs : goal.elaborate_form-returns-in-Ok-elaborate_forms-2-clause-belongs
+elaborate_form-returns-in-Ok-elaborate_forms-2-clause-belongs t c = c.disjunction.ensures.belongs _ c.in-Ok-elaborate_forms-2.ensures.belongs
 
 pub elaborate_forms-returns-in_err-elaborate_form-clause-made : goal.elaborate_forms-returns-in_err-elaborate_form-clause-made
 elaborate_forms-returns-in_err-elaborate_form-clause-made t c = items_spent _ _ _ _ c.loop-syntax-test.true c.syntax-item.is _ _ _ c.loop-syntax.invariant.3 c.elaborate_form.ensures.made
