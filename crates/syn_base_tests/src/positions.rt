@@ -2,10 +2,10 @@
 ghost use Rattle.std.specs.Prelude.{All, IfOk};
 ghost use Rattle.syn_term.specs.Bank.{Belongs};
 
-use syn_cases::cut;
 use sqlite_items::Items;
 use std::alloc::Global;
 use std::test::Fail;
+use syn_cases::cut;
 use syn_term::{
     Bank, Head, Kind, NoMemory, Pos, Sort, Sym, SymId, Symbols, Term, Text, Var, decimal_number,
 };

@@ -1,7 +1,7 @@
 // Declared sorts: lists and tuples that a table takes, and what it shows of them.
-use syn_cases::{cut, sort_of, sorts_of};
 use std::alloc::Global;
 use std::test::Fail;
+use syn_cases::{cut, sort_of, sorts_of};
 use syn_term::{Shape, Sort, Symbols, decimal_number};
 
 /// One walk over one table: a name and two makers, the sort of the items, and the sort that is

@@ -3,10 +3,10 @@
 ghost use Rattle.std.specs.Prelude.{IfOk};
 ghost use Rattle.syn_term.specs.Bank.{Belongs};
 
-use syn_cases::added;
 use sqlite_items::Items;
 use std::alloc::Global;
 use std::test::Fail;
+use syn_cases::added;
 use syn_expr::{Scope, print_form, print_out, print_qform, print_term};
 use syn_form::{Binder, Form, Out, QForm};
 use syn_term::{Bank, Kind, NoMemory, Shared, Sort, SymId, Symbols, Term, Text, Var};

@@ -2,10 +2,10 @@
 // rows, and texts about the limits.
 ghost use Rattle.syn_expr.specs.Scopes.{LeavesNumbersToBinders, spoken};
 
-use syn_cases::{added, cut};
 use std::alloc::Global;
 use std::process::Abort;
 use std::test::Fail;
+use syn_cases::{added, cut};
 use syn_expr::{
     ExprError, Scope, print_form, print_out, print_qform, print_term, read_body, read_form,
     read_out, read_qform, read_term,

@@ -244,7 +244,8 @@ fn prints_specifications(rt: HostRuntime) -> Result<(), Fail> {
 fn prints_a_specification_of_lists(rt: HostRuntime) -> Result<(), Fail> {
     let alloc = rt.alloc();
     let theory = theory_of(alloc, LISTS)?;
-    let text = "spec join\nprogram join(a: L, b: L): z: L\nensures z = app(a, b)\norder shorter\nprimitive head, tail\n";
+    let text =
+        "spec join\nprogram join(a: L, b: L): z: L\nensures z = app(a, b)\norder shorter\nprimitive head, tail\n";
     assert_eq!(rt; printed_spec(alloc, &theory, text)?.as_str(), text);
     Ok(())
 }

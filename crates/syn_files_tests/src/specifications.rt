@@ -89,14 +89,24 @@ ensures z = a // order below // primitive p // use refl => yes
 ensures z = a // nothing p => 2";
 
 /// Each case of the table, behind the text before it, which has so many lines.
-fn walk<R: Abort>(rt: &R, alloc: Global, theory: &Theory, before: &str, table: &str) -> Result<(), Fail> {
+fn walk<R: Abort>(
+    rt: &R,
+    alloc: Global,
+    theory: &Theory,
+    before: &str,
+    table: &str,
+) -> Result<(), Fail> {
     let lines = before.lines().count() as u64;
     for line in table.split('\n') {
         let (case, want) = cut(line, " => ");
         let mut text = String::from_str(alloc, before)?;
         put_lines(&mut text, case)?;
         let line = wanted(want);
-        let expected = if line == 0 { 0 } else { line.saturating_add(lines) };
+        let expected = if line == 0 {
+            0
+        } else {
+            line.saturating_add(lines)
+        };
         let got = bad_spec_line(alloc, theory, text.as_bytes())?;
         assert!(rt; got == expected, "at {case}");
     }

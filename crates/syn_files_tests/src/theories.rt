@@ -186,7 +186,11 @@ fn walk<R: Abort>(rt: &R, alloc: Global, table: &str) -> Result<(), Fail> {
         let mut text = String::from_str(alloc, BASE)?;
         put_lines(&mut text, case)?;
         let line = wanted(want);
-        let expected = if line == 0 { 0 } else { line.saturating_add(count(BASE)) };
+        let expected = if line == 0 {
+            0
+        } else {
+            line.saturating_add(count(BASE))
+        };
         let got = bad_theory_line(alloc, text.as_bytes())?;
         assert!(rt; got == expected, "at {case}");
     }
@@ -237,8 +241,14 @@ fn reads_bytes(rt: HostRuntime) -> Result<(), Fail> {
         (b"sort L = n | c(nat, L)\n".as_slice(), 1),
         (b"theory a\n\xff\n".as_slice(), 2),
         (b"theory a\n# \xff\n".as_slice(), 2),
-        (b"theory bad\nfun g(nat): nat\nclause g(0) = 0\nclause g(s(x)) = g(s(x))\n".as_slice(), 4),
-        (b"theory bad\nfun g(nat): nat\nclause g(0) = 0\n".as_slice(), 4),
+        (
+            b"theory bad\nfun g(nat): nat\nclause g(0) = 0\nclause g(s(x)) = g(s(x))\n".as_slice(),
+            4,
+        ),
+        (
+            b"theory bad\nfun g(nat): nat\nclause g(0) = 0\n".as_slice(),
+            4,
+        ),
     ] {
         assert_eq!(rt; bad_theory_line(alloc, bytes)?, line);
     }

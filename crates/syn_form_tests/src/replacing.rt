@@ -5,10 +5,10 @@ ghost use Rattle.syn_form.specs.Trees.{form_terms};
 ghost use Rattle.syn_term.specs.Bank.{Belongs, Extends};
 
 use crate::formulas::{tall, wide};
-use syn_cases::cut;
 use sqlite_items::Items;
 use std::alloc::Global;
 use std::test::Fail;
+use syn_cases::cut;
 use syn_form::{Form, Part, are_inputs, is_formed_form, put_inputs, replace_all, replace_term};
 use syn_term::{
     Bank, Head, Kind, NoMemory, Pos, Shared, Sort, Sym, SymId, Symbols, Term, Text, Var,

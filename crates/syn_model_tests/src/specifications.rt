@@ -2,12 +2,12 @@
 ghost use Rattle.std.specs.Prelude.{IfOk};
 ghost use Rattle.syn_model.specs.Specifications.{IsSpec};
 
-use syn_cases::cut;
 use crate::theories::{BASICS, begun, declares, failed};
 use sqlite_items::Items;
 use std::alloc::Global;
 use std::process::Abort;
 use std::test::Fail;
+use syn_cases::cut;
 use syn_expr::{Scope, read_form, read_qform};
 use syn_form::{Binder, QForm};
 use syn_model::{DeclError, Spec, SpecPart, Theory};

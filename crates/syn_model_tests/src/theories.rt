@@ -1,10 +1,10 @@
 // Declarations, each a line of a table: those of a theory of numbers are taken, and others are
 // refused behind them.
-use syn_cases::cut;
 use sqlite_items::Items;
 use std::alloc::Global;
 use std::process::Abort;
 use std::test::Fail;
+use syn_cases::cut;
 use syn_expr::{ExprError, Scope, read_form, read_out, read_qform, read_term};
 use syn_form::{Binder, Form, Mono, Out, QForm};
 use syn_model::{Decl, DeclError, Theory};
