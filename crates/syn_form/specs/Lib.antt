@@ -15,6 +15,7 @@ pub mod Lists
 pub mod Quantified
 pub mod Elaboration
 pub mod Texts
+pub mod Writing
 pub mod Replacing
 pub mod ReplacingLaws
 pub mod Inputs

@@ -32,7 +32,7 @@ pub use replacing::replace_all;
 pub use replacing_terms::replace_term;
 pub use signs::polarity;
 pub use simplifying::{simplify, simplify_out};
-pub use sorts::{are_of_one_sort, given_sort, is_atom};
+pub use sorts::{are_of_one_sort, given_sort, is_atom, is_sort};
 pub use syntax::{
     BinderSyntax, FormSyntax, HeadName, Lexeme, Mark, OutSyntax, Quantifier, TermSyntax,
 };

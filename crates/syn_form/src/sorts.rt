@@ -59,7 +59,7 @@ fn result_sort(syms: &Symbols, f: SymId) -> Option<Sort>
 }
 
 /// Whether the sort is one of the table's.
-pub(crate) fn is_sort(syms: &Symbols, sort: Sort) -> bool
+pub fn is_sort(syms: &Symbols, sort: Sort) -> bool
     ensures { IsTrue result ↔ IsSort syms.now sort }
 {
     syms.sort_name(sort).is_some()

@@ -1,5 +1,5 @@
 -- What holds of each free variable of a formula, from its parts.
-use Rattle.std.proofs.Common.{◌≡◌, ◌↔◌, ◌⊎◌, inl, inr, ℕ, Bool, true, false, ◌&&◌, IsTrue, List, [], ◌∷◌, ◌++◌, All, Contains, if◌then◌else◌, nat_eq, refl, sym, ◌∙◌, ap, subst, arith}
+use Rattle.std.proofs.Common.{◌≡◌, ◌↔◌, ◌⊎◌, inl, inr, ℕ, Bool, true, false, ◌&&◌, IsTrue, List, [], ◌∷◌, ◌++◌, All, Contains, get_or, if◌then◌else◌, nat_eq, refl, sym, ◌∙◌, ap, subst, arith}
 use Rattle.std.specs.List.{flat_map}
 use Rattle.std.proofs.lemmas.Bool.Decides.{nat_tests}
 use Rattle.std.proofs.lemmas.List.Elements.{All-cons, All-head, All-nil, All-tail}
@@ -81,6 +81,20 @@ among_none xs ys is = ((λ h. nothing xs (subst (AreAmong xs) is h)), (λ e. all
     nothing : (zs : List Var) → AreAmong zs [] → zs ≡ []
     nothing [] h = refl
     nothing (z ∷ zs) h = absurd (none_in_nil z (All-head (Contains []) z zs h))
+
+-- what is among one variable is that variable
+pub among_one : (xs ys : List Var) (v : Var) → ys ≡ v ∷ [] → AreAmong xs ys ↔ All (λ w. w ≡ v) xs
+among_one xs ys v is = (
+  (λ h k d lt. one (get_or xs k d) (subst (λ (z : List Var). Contains z (get_or xs k d)) is (h k d lt))),
+  (λ h k d lt. subst (λ (z : List Var). Contains z (get_or xs k d)) (sym is) (subst (Contains (v ∷ [])) (sym (h k d lt)) (Contains-head v []))),
+)
+  where
+    one : (w : Var) → Contains (v ∷ []) w → w ≡ v
+    one w c = at (Contains-cons_cases v [] w c)
+      where
+        at : (v ≡ w) ⊎ Contains [] w → w ≡ v
+        at (inl e) = sym e
+        at (inr k) = absurd (none_in_nil w k)
 
 free_quantifier : (f : QFormTree) (b : Binder) (a : QFormTree) → (f ≡ view.All b a) ⊎ (f ≡ view.Exists b a) → free_vars f ≡ without b.var (free_vars a)
 free_quantifier f b a (inl is) = ap free_vars is ∙ qfold-All free_vars_step b a

@@ -19,3 +19,12 @@ pub mod Keeping
 pub mod Asking
 pub mod BareClauses
 pub mod BareDeclaring
+pub mod Distinct
+pub mod HeadStanding
+pub mod UsingQuantified
+pub mod HeadTableLaws
+pub mod Hashes
+pub mod NamedSymbols
+pub mod Written
+pub mod SpecLaws
+pub mod SpecAsking

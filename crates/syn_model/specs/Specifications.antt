@@ -1,6 +1,5 @@
 -- For public contracts: what a specification is: its head, and the parts that may follow one another.
-use Rattle.std.specs.Prelude.{◌≡◌, ◌≢◌, ◌⊎◌, ℕ, ◌<◌, ◌≤◌, List, [], ◌∷◌, ◌++◌, Option, None, All, Any, Contains, length}
-use Rattle.std.specs.List.{flat_map}
+use Rattle.std.specs.Prelude.{◌≡◌, ◌≢◌, ◌⊎◌, ℕ, ◌<◌, ◌≤◌, List, [], ◌∷◌, ◌++◌, Option, None, String, All, Any, Contains, length}
 use Rattle.syn_term.specs.declared.sorts.Kind.TheVariants as kind
 use Rattle.syn_term.specs.declared.sorts.Sort.{Sort}
 use Rattle.syn_term.specs.declared.sorts.Sym.{Sym}
@@ -15,14 +14,13 @@ use Rattle.syn_form.specs.PlainQuantified.{IsPlainQForm, binders_of}
 use Rattle.syn_form.specs.Quantified.{free_vars}
 use Rattle.syn_form.specs.Trees.{FormTree, QFormTree, form_vars}
 use Rattle.syn_model.specs.declared.decl.Decl.{Decl}
-use Rattle.syn_model.specs.declared.decl.Decl.TheVariants as decl
 use Rattle.syn_model.specs.declared.spec_part.SpecPart.{SpecPart}
 use Rattle.syn_model.specs.declared.spec_part.SpecPart.TheVariants as part
 use Rattle.syn_model.specs.declared.uses.Rest.{Rest}
 use Rattle.syn_model.specs.Clauses.{MayUse, UsesForm, UsesTerm}
 use Rattle.syn_model.specs.Declaring.{IsOtherwiseFree, IsTheory}
-use Rattle.syn_model.specs.Heads.{AreDistinct, HeadTree, MayHead, program_id, sorts_of, with_head}
-use Rattle.syn_model.specs.Tables.{table_of}
+use Rattle.syn_model.specs.Heads.{AreDistinct, HeadTree, MayHead, given_head, program_id, sorts_of, with_head}
+use Rattle.syn_model.specs.Tables.{axiom_names, table_of}
 
 -- a specification: its name, the head of its program, the name of the output, the table over which its parts speak, and its parts
 pub record SpecTree : Type 0 where
@@ -38,6 +36,10 @@ with_part s p = record s { parts = s.parts ++ p ∷ [] }
 -- the specification of this name and head over these declarations, without parts
 abbrev pub bare_spec : List Decl → List ℕ → HeadTree → List ℕ → SpecTree
 bare_spec ds name h output = record { name = name; head = h; output = output; table = with_head (table_of ds) h; parts = [] }
+
+-- the same of a head as it is handed in
+abbrev pub given_spec : {Z : Type 0} → List Decl → List ℕ → List ℕ → List (String Z × Sort) → List ℕ → Sort → SpecTree
+given_spec ds name program inputs output result = bare_spec ds name (given_head program inputs result) output
 
 -- it has a name, and its head may stand behind these declarations, with a new name for the output
 pub record MayBegin (ds : List Decl) (s : SpecTree) : Type 0 where
@@ -104,14 +106,6 @@ IsDefined sym = (sym.kind ≡ kind.Fun) ⊎ (sym.kind ≡ kind.Rel)
 -- a function, a relation or an order
 abbrev pub MayBePrimitive : Sym → Type 0
 MayBePrimitive sym = IsDefined sym ⊎ (sym.kind ≡ kind.Order)
-
-abbrev pub axiom_name : Decl → List (List ℕ)
-axiom_name (decl.Axiom name form) = name ∷ []
-axiom_name _ = []
-
--- the names of the axioms
-abbrev pub axiom_names : List Decl → List (List ℕ)
-axiom_names = flat_map axiom_name
 
 -- an axiom, a function or a relation has the name
 abbrev pub MayBeTaken : List Decl → List ℕ → Type 0

@@ -38,6 +38,14 @@ other_name (decl.Axiom name form) = name ∷ []
 other_name (decl.Monotone name mono) = name ∷ []
 other_name _ = []
 
+abbrev pub axiom_name : Decl → List (List ℕ)
+axiom_name (decl.Axiom name form) = name ∷ []
+axiom_name _ = []
+
+-- the names of axioms
+abbrev pub axiom_names : List Decl → List (List ℕ)
+axiom_names = flat_map axiom_name
+
 -- the names of axioms and monotonicity rows
 abbrev pub other_names : List Decl → List (List ℕ)
 other_names = flat_map other_name

@@ -37,6 +37,13 @@ pub(crate) fn is_closed(f: &QForm) -> bool
     form_is_bound(f, &nothing())
 }
 
+/// Whether no variable but this one is free in the formula.
+pub(crate) fn has_free_only(f: &QForm, v: Var) -> bool
+    ensures { IsTrue result ↔ All (λ w. w ≡ v) (free_vars f.now) }
+{
+    form_is_bound(f, &also(v, &nothing()))
+}
+
 /// Whether the two variables are one.
 fn are_one(v: Var, w: Var) -> bool
     ensures { IsTrue result ↔ (v ≡ w) }

@@ -1,11 +1,12 @@
 // Monotonicity rows: whether one fits the symbols, and whether it may follow other declarations.
 ghost use Rattle.std.specs.Prelude.{◌≡◌, ◌↔◌, ◌-◌, ◌≤◌, [], ◌∷◌, All, IsTrue, Some, MatchOption, slice_get};
 ghost use Rattle.syn_form.specs.Sorts as sorts;
-ghost use Rattle.syn_model.specs.Tables.{mono_in, monos_of, table_of};
+ghost use Rattle.syn_model.specs.Tables.{mono_in, monos_of};
 ghost use Rattle.syn_model.specs.Declaring.{GivesFor, IsMono, IsRelationOn, MayMono};
 
 use crate::decl::Decl;
 use crate::naming::is_new_name;
+use crate::theory::Theory;
 use syn_form::Mono;
 use syn_term::{Kind, Sort, Sym, SymId, Symbols};
 
@@ -114,9 +115,8 @@ fn is_new_row(decls: &[Decl], mono: &Mono) -> bool
 }
 
 /// Whether the row may follow the declarations, with this name.
-pub(crate) fn may_mono(syms: &Symbols, decls: &[Decl], name: &str, mono: &Mono) -> bool
-    requires { syms.now ≡ table_of decls.now }
-    ensures { IsTrue result ↔ MayMono decls.now name.now mono.now }
+pub(crate) fn may_mono(theory: &Theory, name: &str, mono: &Mono) -> bool
+    ensures { IsTrue result ↔ MayMono (theory.now).decls name.now mono.now }
 {
-    is_new_name(syms, decls, name) && is_mono(syms, mono) && is_new_row(decls, mono)
+    is_new_name(theory, name) && is_mono(theory.symbols(), mono) && is_new_row(theory.decls(), mono)
 }

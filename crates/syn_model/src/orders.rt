@@ -6,33 +6,31 @@ ghost use Rattle.syn_form.specs.Trees.{term_vars};
 ghost use Rattle.syn_term.specs.Terms.{sort_of};
 ghost use Rattle.syn_term.specs.declared.sorts.Sort.TheVariants as sorts;
 ghost use Rattle.syn_model.specs.Declaring.{AsksHead, AsksOrder, IsNumberedIn, IsOtherwiseFree};
-ghost use Rattle.syn_model.specs.Tables.{table_of};
 
 use crate::among::is_measured_in;
-use crate::decl::Decl;
-use crate::naming::names_other;
+use crate::theory::Theory;
 use syn_form::is_sorted;
 use syn_term::{Sort, Symbols, Term};
 
 /// Whether no axiom and no monotonicity row has the name.
-fn is_otherwise_free(decls: &[Decl], name: &str) -> bool
-    ensures { IsTrue result ↔ IsOtherwiseFree decls.now name.now }
+fn is_otherwise_free(theory: &Theory, name: &str) -> bool
+    ensures { IsTrue result ↔ IsOtherwiseFree (theory.now).decls name.now }
 {
-    !names_other(decls, name)
+    !theory.has_other(name)
 }
 
 /// Whether no axiom and no monotonicity row has one of the two names.
-pub(crate) fn are_both_free(decls: &[Decl], first: &str, second: &str) -> bool
-    ensures { IsTrue result ↔ All (IsOtherwiseFree decls.now) (first.now ∷ second.now ∷ []) }
+pub(crate) fn are_both_free(theory: &Theory, first: &str, second: &str) -> bool
+    ensures { IsTrue result ↔ All (IsOtherwiseFree (theory.now).decls) (first.now ∷ second.now ∷ []) }
 {
-    is_otherwise_free(decls, first) && is_otherwise_free(decls, second)
+    is_otherwise_free(theory, first) && is_otherwise_free(theory, second)
 }
 
 /// Whether no axiom and no monotonicity row has one of the three names.
-pub(crate) fn are_all_free(decls: &[Decl], first: &str, second: &str, third: &str) -> bool
-    ensures { IsTrue result ↔ All (IsOtherwiseFree decls.now) (first.now ∷ second.now ∷ third.now ∷ []) }
+pub(crate) fn are_all_free(theory: &Theory, first: &str, second: &str, third: &str) -> bool
+    ensures { IsTrue result ↔ All (IsOtherwiseFree (theory.now).decls) (first.now ∷ second.now ∷ third.now ∷ []) }
 {
-    is_otherwise_free(decls, first) && are_both_free(decls, second, third)
+    is_otherwise_free(theory, first) && are_both_free(theory, second, third)
 }
 
 /// How many arguments a function or a relation has at most.
@@ -49,10 +47,10 @@ fn are_few(args: &[Sort], most: usize) -> bool
 }
 
 /// Whether a function or relation of this name, with these arguments, asks nothing more.
-pub(crate) fn asks_head(decls: &[Decl], name: &str, args: &[Sort]) -> bool
-    ensures { IsTrue result ↔ AsksHead decls.now name.now args.now }
+pub(crate) fn asks_head(theory: &Theory, name: &str, args: &[Sort]) -> bool
+    ensures { IsTrue result ↔ AsksHead (theory.now).decls name.now args.now }
 {
-    is_otherwise_free(decls, name) && are_few(args, MOST_ARGUMENTS)
+    is_otherwise_free(theory, name) && are_few(args, MOST_ARGUMENTS)
 }
 
 /// Whether the term is a number.
@@ -70,18 +68,11 @@ fn is_measure(syms: &Symbols, args: &[Sort], measure: &Term) -> bool
 }
 
 /// Whether an order asks nothing more than that the table takes its symbol.
-pub(crate) fn asks_order(
-    syms: &Symbols,
-    decls: &[Decl],
-    name: &str,
-    args: &[Sort],
-    measure: &Term,
-) -> bool
-    requires { syms.now ≡ table_of decls.now }
-    ensures { IsTrue result ↔ AsksOrder decls.now name.now args.now measure.now }
+pub(crate) fn asks_order(theory: &Theory, name: &str, args: &[Sort], measure: &Term) -> bool
+    ensures { IsTrue result ↔ AsksOrder (theory.now).decls name.now args.now measure.now }
 {
-    if !is_otherwise_free(decls, name) {
+    if !is_otherwise_free(theory, name) {
         return false;
     }
-    are_few(args, MOST_COMPARED) && is_measure(syms, args, measure)
+    are_few(args, MOST_COMPARED) && is_measure(theory.symbols(), args, measure)
 }

@@ -1,7 +1,10 @@
 // The parts of a specification, one for each line of its text behind the second.
+ghost use Rattle.std.specs.Prelude.{◌≡◌, [], IfOk, OnOk};
+
 use sqlite_items::Items;
+use std::alloc::Global;
 use syn_form::{Form, QForm};
-use syn_term::Text;
+use syn_term::{NoMemory, Text};
 
 /// A part of a specification. In the output condition the output is the variable with number 0; the
 /// inputs are symbols.
@@ -17,4 +20,72 @@ pub enum SpecPart {
     Primitive(Items<Text>),
     /// `use NAME, ..`: the axioms and the symbols whose clauses a search begins with.
     Taken(Items<Text>),
+}
+
+fn push_texts(texts: &[Text], copies: &mut Items<Text>) -> Result<(), NoMemory>
+    requires { copies.old ≡ [] }
+    ensures { OnOk result (copies.new ≡ texts.now) }
+{
+    for text in texts {
+        copies.push(text.again()?)?;
+    }
+    Ok(())
+}
+
+fn texts_again(alloc: Global, texts: &[Text]) -> Result<Items<Text>, NoMemory>
+    ensures { IfOk result (λ copies. copies ≡ texts.now) }
+{
+    let mut copies = Items::new(alloc);
+    match push_texts(texts, &mut copies) {
+        Ok(()) => Ok(copies),
+        Err(error) => {
+            drop(copies);
+            Err(error)
+        }
+    }
+}
+
+impl SpecPart {
+    /// The same part once more. Its trees are shared; names are copied.
+    pub fn again(&self, alloc: Global) -> Result<SpecPart, NoMemory>
+        ensures { IfOk result (λ p. p ≡ self.now) }
+    {
+        match self {
+            SpecPart::Requires(f) => Ok(SpecPart::Requires(f.again()?)),
+            SpecPart::Ensures(f) => Ok(SpecPart::Ensures(f.again()?)),
+            SpecPart::Order(name) => Ok(SpecPart::Order(name.again()?)),
+            SpecPart::Primitive(names) => {
+                Ok(SpecPart::Primitive(texts_again(alloc, names.as_slice())?))
+            }
+            SpecPart::Taken(names) => Ok(SpecPart::Taken(texts_again(alloc, names.as_slice())?)),
+        }
+    }
+}
+
+fn push_parts(
+    alloc: Global,
+    parts: &[SpecPart],
+    copies: &mut Items<SpecPart>,
+) -> Result<(), NoMemory>
+    requires { copies.old ≡ [] }
+    ensures { OnOk result (copies.new ≡ parts.now) }
+{
+    for part in parts {
+        copies.push(part.again(alloc)?)?;
+    }
+    Ok(())
+}
+
+/// The same parts once more.
+pub(crate) fn parts_again(alloc: Global, parts: &[SpecPart]) -> Result<Items<SpecPart>, NoMemory>
+    ensures { IfOk result (λ copies. copies ≡ parts.now) }
+{
+    let mut copies = Items::new(alloc);
+    match push_parts(alloc, parts, &mut copies) {
+        Ok(()) => Ok(copies),
+        Err(error) => {
+            drop(copies);
+            Err(error)
+        }
+    }
 }

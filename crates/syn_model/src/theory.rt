@@ -1,18 +1,20 @@
 // A theory: its declarations, and the table of symbols that they make.
-ghost use Rattle.std.specs.Prelude.{◌≡◌, ◌↔◌, ◌++◌, [], ◌∷◌, Err, IfOk, OnErr, OnOk};
+ghost use Rattle.std.specs.Prelude.{◌≡◌, ◌↔◌, ◌++◌, [], ◌∷◌, Bool, Contains, Err, IfOk, IsTrue, OnErr, OnOk};
 ghost use Rattle.syn_term.specs.Names.{IsName};
 ghost use Rattle.syn_term.specs.Symbols.{MayAdd, with_symbol};
 ghost use Rattle.syn_term.specs.DeclaredSorts.{MayAddList, MayAddTuple, with_list, with_tuple};
+ghost use Rattle.syn_form.specs.Writing.{CanWriteTable};
 ghost use Rattle.syn_model.specs.Declaring.{Asks, ComesInTime, IsTheory, MayDeclare, is_clause};
 ghost use Rattle.syn_model.specs.Headings as headings;
 ghost use Rattle.syn_model.specs.Theories.{MayBring, Steps, bare_theory, with_decl};
-ghost use Rattle.syn_model.specs.Tables.{fun_symbol, order_symbol, rel_symbol, table_after, table_of};
+ghost use Rattle.syn_model.specs.Tables.{axiom_names, fun_symbol, order_symbol, other_names, rel_symbol, table_after, table_of};
 ghost use Rattle.syn_model.specs.declared.theory.DeclError.TheVariants as error;
 
 use crate::copying::decls_again;
 use crate::decl::Decl;
 use crate::headings::is_whole;
 use crate::may_follow::may_follow;
+use crate::naming::{names_axiom, names_other};
 use sqlite_items::Items;
 use std::alloc::Global;
 use std::marker::Model;
@@ -240,9 +242,24 @@ impl Theory {
 
     /// The table of symbols that the declarations make.
     pub fn symbols(&self) -> &Symbols
-        ensures { result.now ≡ table_of (self.now).decls }
+        ensures table { result.now ≡ table_of (self.now).decls }
+        ensures written { (rows : Bool) → CanWriteTable rows result.now }
     {
         &self.syms
+    }
+
+    /// Whether an axiom or a monotonicity row has the name.
+    pub(crate) fn has_other(&self, name: &str) -> bool
+        ensures { IsTrue result ↔ Contains (other_names (self.now).decls) name.now }
+    {
+        names_other(self.decls.as_slice(), name)
+    }
+
+    /// Whether an axiom has the name.
+    pub(crate) fn has_axiom(&self, name: &str) -> bool
+        ensures { IsTrue result ↔ Contains (axiom_names (self.now).decls) name.now }
+    {
+        names_axiom(self.decls.as_slice(), name)
     }
 
     /// Whether no clause of the function or relation declared last is missing.
@@ -259,7 +276,7 @@ impl Theory {
         ensures refused { result ≡ Err error.Refused → MayDeclare self.old.decls decl → ⊥ }
         ensures err { OnErr result (self.new ≡ self.old) }
     {
-        match may_follow(self.alloc, &self.syms, self.decls.as_slice(), &decl) {
+        match may_follow(self.alloc, self, &decl) {
             Ok(true) => self.put_or_refuse(decl),
             Ok(false) => {
                 drop(decl);

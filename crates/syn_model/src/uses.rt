@@ -3,9 +3,10 @@ ghost use Rattle.std.specs.Prelude.{◌≡◌, ◌↔◌, All, IsTrue};
 ghost use Rattle.syn_term.specs.Terms.{head_of};
 ghost use Rattle.syn_term.specs.declared.sorts.Head.TheVariants as heads;
 ghost use Rattle.syn_model.specs.Clauses.{MayUse, UsesForm, UsesOut, UsesTerm};
+ghost use Rattle.syn_model.specs.Specifications.{UsesQForm};
 
 use sqlite_items::at;
-use syn_form::{Form, Out};
+use syn_form::{Form, Out, QForm};
 use syn_term::{Head, Node, SymId, Term, Var};
 
 /// Where a body may use the symbol that it defines: with this variable at this place, counted from 0.
@@ -113,4 +114,36 @@ pub(crate) fn uses_out(own: SymId, rest: Option<Rest>, o: &Out) -> bool
             uses_out(own, rest, u.get()) && uses_out(own, rest, v.get())
         }
     }
+}
+
+/// Whether the symbol is used in the formula, which may have quantifiers, only where it may be.
+#[cycle(qforms)]
+pub(crate) fn uses_qform(own: SymId, rest: Option<Rest>, f: &QForm) -> bool
+    ensures { IsTrue result ↔ UsesQForm own rest f.now }
+{
+    match f {
+        QForm::True | QForm::False => true,
+        QForm::Atom(r, args) => {
+            may_stand(own, rest, *r, args.get().as_slice())
+                && uses_terms(own, rest, args.get().as_slice())
+        }
+        QForm::Equal(s, t) => uses_term(own, rest, s) && uses_term(own, rest, t),
+        QForm::Not(a) => uses_qform(own, rest, a.get()),
+        QForm::And(all) | QForm::Or(all) => uses_qforms(own, rest, all.get().as_slice()),
+        QForm::Implies(a, b) => uses_qform(own, rest, a.get()) && uses_qform(own, rest, b.get()),
+        QForm::All(_, a) | QForm::Exists(_, a) => uses_qform(own, rest, a.get()),
+    }
+}
+
+/// The same for each of the formulas.
+#[cycle(qforms)]
+fn uses_qforms(own: SymId, rest: Option<Rest>, all: &[QForm]) -> bool
+    ensures { IsTrue result ↔ All (UsesQForm own rest) all.now }
+{
+    for f in all {
+        if !uses_qform(own, rest, f) {
+            return false;
+        }
+    }
+    true
 }

@@ -12,4 +12,4 @@ decreases-bind_new_names l = 2 * goal.size-bind_new_names l + 1
 
 -- the binders so far have new names
 abbrev pub invariant-bind_new_names-loop-f : goal.invariant-bind_new_names-loop-f
-invariant-bind_new_names-loop-f l = All (λ f. All (HasNewName l.decls l.name) (binders_of f)) (take l.f-index l.all)
+invariant-bind_new_names-loop-f l = All (λ f. All (HasNewName l.theory.decls l.name) (binders_of f)) (take l.f-index l.all)
