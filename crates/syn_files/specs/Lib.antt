@@ -1,3 +1,4 @@
 pub mod Words
 pub mod TheoryLines
+pub mod SpecLines
 pub mod inner

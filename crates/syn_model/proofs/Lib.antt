@@ -28,3 +28,4 @@ pub mod NamedSymbols
 pub mod Written
 pub mod SpecLaws
 pub mod SpecAsking
+pub mod BareExtending
