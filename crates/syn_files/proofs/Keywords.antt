@@ -1,6 +1,7 @@
 -- The first word of a line tells the kind of the declaration.
 use Rattle.std.proofs.Common.{◌≡◌, ℕ, ◌≤◌, Bool, true, false, true≢false, List, [], ◌∷◌, ◌++◌, Option, None, Some, codes, length, map, refl, sym, ◌∙◌, ap, subst, arith, inl, inr}
 use Rattle.std.specs.Str.{bytes_eq}
+use Rattle.syn_term.specs.Symbols.{SymbolTable}
 use Rattle.syn_term.specs.Tokens.{Word}
 use Rattle.syn_form.specs.declared.syntax.HeadName.TheVariants as head
 use Rattle.syn_form.specs.declared.syntax.TermSyntax.TheViews as term_syntax
@@ -12,7 +13,10 @@ use Rattle.syn_model.specs.Declaring.{MayDeclare}
 use Rattle.syn_model.specs.Tables.{table_of}
 use Rattle.syn_files.specs.TheoryLines.{Writes, own_name}
 use Rattle.syn_files.specs.inner.SimpleLines.{fun_line, rel_line, sort_line}
+use Rattle.syn_files.specs.inner.Firsts.{got, name_first}
 use Rattle.syn_files.specs.inner.Telling.{ReadsDecl}
+use Rattle.syn_model.proofs.BareDeclaring.{table_bare}
+use Rattle.syn_files.proofs.FirstLaws.{name_read, same_text}
 use Rattle.syn_files.proofs.SimpleLaws.{fun_read, fun_reads, list_reads, rel_read, rel_reads, sort_read_line, tuple_reads}
 
 abbrev pub keyword : Decl → List ℕ
@@ -49,18 +53,18 @@ module _ (ds : List Decl) where
   pub same_keyword : (d : Decl) (k : List ℕ) (ws : List Word) → Writes ds d (name_word k ∷ ws) → k ≡ keyword d
   same_keyword d k ws h = ap first_bytes (keyword_first d (name_word k ∷ ws) h).1
 
-  apart : (d : Decl) (k : List ℕ) (ws : List Word) → bytes_eq (keyword d) k ≡ false → bytes_eq k k ≡ true → Writes ds d (name_word k ∷ ws) → ⊥
+  pub apart : (d : Decl) (k : List ℕ) (ws : List Word) → bytes_eq (keyword d) k ≡ false → bytes_eq k k ≡ true → Writes ds d (name_word k ∷ ws) → ⊥
   apart d k ws other one h = true≢false (sym one ∙ (ap (λ (z : List ℕ). bytes_eq z k) (same_keyword d k ws h) ∙ other))
 
-  rel_only : (ws : List Word) (e : Decl) → Writes ds e (name_word (codes "rel") ∷ ws) → MayDeclare ds e → rel_line (table_of ds) ws ≡ Some e
+  pub rel_only : (ws : List Word) (e : Decl) → Writes ds e (name_word (codes "rel") ∷ ws) → MayDeclare ds e → rel_line (table_of ds) ws ≡ Some e
   rel_only ws (decl.Rel name args) h may = rel_reads ds ws name args h may.asks.few.0
   rel_only ws e h may = absurd (apart e (codes "rel") ws refl refl h)
 
-  fun_only : (ws : List Word) (e : Decl) → Writes ds e (name_word (codes "fun") ∷ ws) → MayDeclare ds e → fun_line (table_of ds) ws ≡ Some e
+  pub fun_only : (ws : List Word) (e : Decl) → Writes ds e (name_word (codes "fun") ∷ ws) → MayDeclare ds e → fun_line (table_of ds) ws ≡ Some e
   fun_only ws (decl.Fun name args result) h may = fun_reads ds ws name args result h may.asks.few.0
   fun_only ws e h may = absurd (apart e (codes "fun") ws refl refl h)
 
-  sort_only : (ws : List Word) (e : Decl) → Writes ds e (name_word (codes "sort") ∷ ws) → MayDeclare ds e → sort_line (table_of ds) ws ≡ Some e
+  pub sort_only : (ws : List Word) (e : Decl) → Writes ds e (name_word (codes "sort") ∷ ws) → MayDeclare ds e → sort_line (table_of ds) ws ≡ Some e
   sort_only ws (decl.ListSort name nil cons item) h may = list_reads ds ws name nil cons item h
   sort_only ws (decl.TupleSort name make parts) h may = tuple_reads ds ws name make parts h (let two : 2 ≤ length parts = may.brings.few.0 in omega arith)
   sort_only ws e h may = absurd (apart e (codes "sort") ws refl refl h)
@@ -98,3 +102,33 @@ module _ (ds : List Decl) where
 
   pub sort_told : (ws : List Word) (o : Option Decl) → o ≡ sort_line (table_of ds) ws → ReadsDecl ds (name_word (codes "sort") ∷ ws) o
   sort_told ws = reads_line (codes "sort") ws (sort_line (table_of ds) ws) (sort_only ws) (sort_made ws)
+
+-- the same over the table of a theory, for a word that was told
+abbrev Told : List Decl → List ℕ → List Word → Option Decl → Type 0
+Told ds k ws o = ReadsDecl (map bare_decl ds) (name_word k ∷ ws) o
+
+module _ (ds : List Decl) (table : SymbolTable) (is : table ≡ table_of ds) (k : List ℕ) (ws : List Word) where
+  same_table : table ≡ table_of (map bare_decl ds)
+  same_table = is ∙ sym (table_bare ds)
+
+  as_word : (x : List ℕ) (t : Bool) (o : Option Decl) → t ≡ bytes_eq k x → t ≡ true → Told ds x ws o → Told ds k ws o
+  as_word x t o test passed h = subst (λ (z : List ℕ). Told ds z ws o) (sym (same_text k x (sym test ∙ passed))) h
+
+  pub sort_arm : (t : Bool) → t ≡ bytes_eq k (codes "sort") → t ≡ true → (o : Option Decl) → o ≡ sort_line table ws → Told ds k ws o
+  sort_arm t test passed o e = as_word (codes "sort") t o test passed (sort_told (map bare_decl ds) ws o (e ∙ ap (λ (z : SymbolTable). sort_line z ws) same_table))
+
+  pub fun_arm : (t : Bool) → t ≡ bytes_eq k (codes "fun") → t ≡ true → (o : Option Decl) → o ≡ fun_line table ws → Told ds k ws o
+  fun_arm t test passed o e = as_word (codes "fun") t o test passed (fun_told (map bare_decl ds) ws o (e ∙ ap (λ (z : SymbolTable). fun_line z ws) same_table))
+
+  pub rel_arm : (t : Bool) → t ≡ bytes_eq k (codes "rel") → t ≡ true → (o : Option Decl) → o ≡ rel_line table ws → Told ds k ws o
+  rel_arm t test passed o e = as_word (codes "rel") t o test passed (rel_told (map bare_decl ds) ws o (e ∙ ap (λ (z : SymbolTable). rel_line z ws) same_table))
+
+-- what doesn't begin with a name declares nothing
+pub nameless : (ds : List Decl) (words : List Word) → name_first words ≡ None → ReadsDecl ds words None
+nameless ds words e d h may =
+    let p = keyword_first ds d words h in
+    let n : None ≡ Some (got (keyword d) p.0) = sym e ∙ ap name_first p.1 in absurd (cc)
+
+-- what was told behind the first name
+pub told_behind : (ds : List Decl) (words left : List Word) (k : List ℕ) (o : Option Decl) → name_first words ≡ Some (got k left) → ReadsDecl ds (name_word k ∷ left) o → ReadsDecl ds words o
+told_behind ds words left k o e h = subst (λ (z : List Word). ReadsDecl ds z o) (sym (name_read words (got k left) e)) h

@@ -42,7 +42,7 @@ fn is_sign(kind: TokenKind, bytes: &[u8], sign: &[u8]) -> bool
 }
 
 /// Whether the two texts are one.
-fn is_text(text: &str, other: &str) -> bool
+pub(crate) fn is_text(text: &str, other: &str) -> bool
     ensures { result ≡ bytes_eq text.now other.now }
 {
     text == other

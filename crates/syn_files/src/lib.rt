@@ -2,5 +2,11 @@
 //! a theory or a specification. What is printed reads back to an equal one.
 #![tactic(auto)]
 
+mod axiom_lines;
 mod cursor;
+mod decl_lines;
 mod simple_lines;
+mod theory_text;
+mod title;
+
+pub use theory_text::read_theory;

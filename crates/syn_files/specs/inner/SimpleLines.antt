@@ -1,11 +1,12 @@
 -- For private contracts: what the words behind the first of a line declare, read from the left, where no expression stands in it.
 use Rattle.std.specs.Prelude.{ℕ, List, [], ◌∷◌, Option, None, Some, codes, if◌then◌else◌}
+use Rattle.std.specs.Option.{option_map}
 use Rattle.std.specs.Str.{bytes_eq}
 use Rattle.syn_term.specs.Symbols.{SymbolTable}
 use Rattle.syn_term.specs.Tokens.{Word}
 use Rattle.syn_model.specs.declared.decl.Decl.{Decl}
 use Rattle.syn_model.specs.declared.decl.Decl.TheVariants as decl
-use Rattle.syn_files.specs.inner.Firsts.{◌>>=◌, ended, name_first, sign_first, sort_first, sorts_first}
+use Rattle.syn_files.specs.inner.Firsts.{◌>>=◌, Got, got, ended, name_first, sign_first, sort_first, sorts_first}
 
 -- NAME, and nothing behind it
 abbrev pub title_line : List Word → Option (List ℕ)
@@ -38,3 +39,7 @@ fun_line table ws =
 -- r(S1, .., Sn)
 abbrev pub rel_line : SymbolTable → List Word → Option Decl
 rel_line table ws = name_first ws >>= λ n. sorts_first table n.left >>= λ a. ended a.left (decl.Rel n.value a.value)
+
+-- the name of an axiom or a monotonicity row with the words behind its colon
+abbrev pub entry_first : List Word → Option (Got (List ℕ))
+entry_first ws = name_first ws >>= λ n. option_map (λ b. got n.value b) (sign_first (codes ":") n.left)
