@@ -6,3 +6,4 @@ pub mod EntryLaws
 pub mod AxiomLaws
 pub mod WriteOnce
 pub mod LoopLaws
+pub mod ParamLaws

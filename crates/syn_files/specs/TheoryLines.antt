@@ -22,7 +22,8 @@ use Rattle.syn_model.specs.declared.decl.Decl.{Decl}
 use Rattle.syn_model.specs.declared.decl.Decl.TheVariants as decl
 use Rattle.syn_model.specs.Declaring.{MayDeclare}
 use Rattle.syn_model.specs.Headings.{heading_of, is_whole}
-use Rattle.syn_model.specs.Heads.{AreDistinct, IsNewName, Param}
+use Rattle.syn_model.specs.declared.heads.Param.{Param}
+use Rattle.syn_model.specs.Heads.{AreDistinct, IsNewName}
 use Rattle.syn_model.specs.Tables.{table_of}
 use Rattle.syn_model.specs.Theories.{TheoryTree, bare_theory, with_decl}
 use Rattle.syn_files.specs.Words.{WriteParameters, WriteSorts, WritesSort, bracketed, comma, listed_words, number_word, singly}

@@ -5,7 +5,9 @@
 mod axiom_lines;
 mod cursor;
 mod decl_lines;
+mod params;
 mod simple_lines;
+mod spec_lines;
 mod theory_text;
 mod title;
 
