@@ -7,3 +7,5 @@ pub mod AxiomLaws
 pub mod WriteOnce
 pub mod LoopLaws
 pub mod ParamLaws
+pub mod NameLaws
+pub mod HeadLaws

@@ -5,8 +5,9 @@ use Rattle.syn_form.specs.Grammar.{name_word}
 use Rattle.syn_model.specs.declared.decl.Decl.{Decl}
 use Rattle.syn_model.specs.declared.spec_part.SpecPart.{SpecPart}
 use Rattle.syn_model.specs.BareParts.{bare_part, bare_spec_tree}
-use Rattle.syn_model.specs.Specifications.{IsSpec, SpecTree}
-use Rattle.syn_files.specs.SpecLines.{SpecLine, SpecState, SpecWordsLead, WritesPart, known, nothing, titled}
+use Rattle.syn_model.specs.declared.heads.Head.{Head as HeadTree}
+use Rattle.syn_model.specs.Specifications.{IsSpec, MayBegin, SpecTree, bare_spec}
+use Rattle.syn_files.specs.SpecLines.{SpecLine, SpecState, SpecWordsLead, WritesHead, WritesPart, known, nothing, titled}
 
 -- the words say the part, its places left out, and no other; where none is answered they say none
 abbrev pub ReadsPart : SpecTree → List Word → Option SpecPart → Type 0
@@ -37,3 +38,8 @@ spec_title_words name = name_word (codes "spec") ∷ name_word name ∷ []
 abbrev pub IsOver : List Decl → Option SpecTree → Type 0
 IsOver ds None = Unit {0}
 IsOver ds (Some s) = IsSpec ds s
+
+-- the words begin the specification of this name, and no other; where none is answered they begin none
+abbrev pub ReadsHead : List Decl → List ℕ → List Word → Option SpecTree → Type 0
+ReadsHead ds name words None = (h : HeadTree) (output : List ℕ) → WritesHead ds h output words → MayBegin ds (bare_spec ds name h output) → ⊥
+ReadsHead ds name words (Some s) = (h : HeadTree) × (output : List ℕ) × WritesHead ds h output words × MayBegin ds (bare_spec ds name h output) × (s ≡ bare_spec ds name h output)
