@@ -9,3 +9,7 @@ pub mod LoopLaws
 pub mod ParamLaws
 pub mod NameLaws
 pub mod HeadLaws
+pub mod PartLaws
+pub mod SpecSteps
+pub mod TextLoop
+pub mod SpecLoop

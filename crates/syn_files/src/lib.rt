@@ -7,8 +7,12 @@ mod cursor;
 mod decl_lines;
 mod params;
 mod simple_lines;
+mod spec_forms;
+mod spec_head;
 mod spec_lines;
+mod spec_text;
 mod theory_text;
 mod title;
 
+pub use spec_text::read_spec;
 pub use theory_text::read_theory;
