@@ -146,7 +146,9 @@ fn finished(progress: SpecProgress, cut: &Cut) -> Result<Spec, FileError>
     ensures over { (ds : List Decl) → IsOver ds progress.spec → IfOk result (IsSpec ds) }
 {
     let after = cut.lines.len() as u64 + 1;
-    match progress.spec {
+    let SpecProgress { name, spec } = progress;
+    drop(name);
+    match spec {
         None => Err(FileError::Bad(after)),
         Some(spec) => {
             if is_finished(&spec, cut) {
