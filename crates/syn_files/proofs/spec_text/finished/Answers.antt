@@ -1,6 +1,5 @@
-use Rattle.std.proofs.Common.{◌≡◌, ◌+◌, List, [], ℕ, Some, true, true≢false, length, map, sym, ◌∙◌, ap, subst, arith}
+use Rattle.std.proofs.Common.{◌≡◌, ◌+◌, true≢false, length, map, sym, ◌∙◌, ap, arith}
 use Rattle.std.proofs.lemmas.List.{length-map}
-use Rattle.syn_model.specs.Specifications.{IsWholeSpec, SpecTree}
 use Rattle.syn_files.proofs.SpecLoop.{end_complete, end_early, end_unbegun}
 use Rattle.syn_files.proofs.spec_text.finished.Goals as goal
 
@@ -9,16 +8,13 @@ returns-in-None-clause-answer c = λ ds bytes cut led.
     let n : c.len.result ≡ length c.args.cut.now.lines.items = omega (arith, c.len.ensures) in
     end_unbegun ds bytes _ _ cut _ _ _ (ap (λ k. k + 1) (n ∙ sym (length-map c.args.cut.now.lines.items (λ line. line.now)))) led c.in-None.is
 
-abbrev IsEnd : List ℕ → SpecTree → Type 0
-IsEnd rest s = (rest ≡ []) × IsWholeSpec s
-
 pub returns-then-is_finished-clause-answer : goal.returns-then-is_finished-clause-answer
 returns-then-is_finished-clause-answer c = λ ds bytes cut led.
     let n : c.len.result ≡ length c.args.cut.now.lines.items = omega (arith, c.len.ensures) in
-    end_complete ds bytes _ _ cut _ _ _ (ap (λ k. k + 1) (n ∙ sym (length-map c.args.cut.now.lines.items (λ line. line.now)))) led _ (c.in-Some.is ∙ ap Some (sym c.in-Some.spec-is)) (c.is_finished.ensures.0 c.if-is_finished.true)
+    end_complete ds bytes _ _ cut _ _ _ (ap (λ k. k + 1) (n ∙ sym (length-map c.args.cut.now.lines.items (λ line. line.now)))) led _ c.in-Some.is (c.is_finished.ensures.0 c.if-is_finished.true)
 
 pub returns-else-is_finished-clause-answer : goal.returns-else-is_finished-clause-answer
 returns-else-is_finished-clause-answer c = λ ds bytes cut led.
     let n : c.len.result ≡ length c.args.cut.now.lines.items = omega (arith, c.len.ensures) in
     end_early ds bytes _ _ cut _ _ _ (ap (λ k. k + 1) (n ∙ sym (length-map c.args.cut.now.lines.items (λ line. line.now)))) led c.in-Some.spec c.in-Some.is
-    (λ both. true≢false (sym (c.is_finished.ensures.1 (subst (IsEnd c.args.cut.now.rest.now) (sym c.in-Some.spec-is) both)) ∙ c.if-is_finished.false))
+    (λ both. true≢false (sym (c.is_finished.ensures.1 both) ∙ c.if-is_finished.false))
