@@ -14,12 +14,12 @@ use Rattle.syn_model.specs.Tables.{table_of}
 use Rattle.syn_files.specs.SpecLines.{WritesHead}
 use Rattle.syn_files.specs.Words.{WriteParameters, WritesSort, bracketed, listed_words}
 use Rattle.syn_files.specs.inner.Firsts.{◌>>=◌, Got, got, ended, name_first, sign_first, word_first}
-use Rattle.syn_files.specs.inner.Params.{param, param_first, params_first}
+use Rattle.syn_files.specs.inner.Inputs.{param, param_first, inputs_first}
 use Rattle.syn_files.specs.inner.SpecWords.{Begins, HeadLine, begun_by, head_line, head_with, output_line}
 use Rattle.syn_files.specs.inner.SpecTelling.{ReadsHead}
 use Rattle.syn_files.proofs.FirstLaws.{ended_read, name_read, sign_read}
 use Rattle.syn_files.proofs.NameLaws.{word_read}
-use Rattle.syn_files.proofs.ParamLaws.{param_read, param_reads, params_read, params_reads}
+use Rattle.syn_files.proofs.InputLaws.{param_read, param_reads, inputs_read, inputs_reads}
 
 abbrev colon : Word
 colon = sign_word (codes ":")
@@ -55,27 +55,27 @@ module _ (table : SymbolTable) where
   head_end program a = option_map (head_with program a.value) (output_line table a.left)
 
   abbrev head_behind : Got (List ℕ) → Option HeadLine
-  head_behind n = params_first table n.left >>= head_end n.value
+  head_behind n = inputs_first table n.left >>= head_end n.value
 
   abbrev IsHeadRead : List Word → HeadLine → Type 0
   IsHeadRead ws g = (qs : List (List Word)) × (w : Word) × WriteParameters table g.head.inputs qs × WritesSort table g.head.result w
       × (ws ≡ name_word g.head.program ∷ (bracketed (listed_words qs) ++ colon ∷ name_word g.output ∷ colon ∷ w ∷ []))
 
-  head_got : (ws : List Word) (n : Got (List ℕ)) (a : Got (List Param)) (o : Option Param) (g : HeadLine) → name_first ws ≡ Some n → params_first table n.left ≡ Some a → output_line table a.left ≡ o → option_map (head_with n.value a.value) o ≡ Some g → IsHeadRead ws g
+  head_got : (ws : List Word) (n : Got (List ℕ)) (a : Got (List Param)) (o : Option Param) (g : HeadLine) → name_first ws ≡ Some n → inputs_first table n.left ≡ Some a → output_line table a.left ≡ o → option_map (head_with n.value a.value) o ≡ Some g → IsHeadRead ws g
   head_got ws n a None g named listed is e = absurd (cc)
   head_got ws n a (Some z) g named listed is e =
       let h : head_with n.value a.value z ≡ g = cc in
-      let p = params_read table n.left a listed in
+      let p = inputs_read table n.left a listed in
       let q = out_read a.left z is in
       subst (IsHeadRead ws) h (p.0, q.0, p.1, q.1, name_read ws n named ∙ ap (λ (y : List Word). name_word n.value ∷ y) (p.2 ∙ ap (λ (y : List Word). bracketed (listed_words p.0) ++ y) q.2))
 
   head_read : (ws : List Word) (g : HeadLine) → head_line table ws ≡ Some g → IsHeadRead ws g
   head_read ws g e = option_and_then_some head_behind (name_first ws) g e
-      (λ n named k. option_and_then_some (head_end n.value) (params_first table n.left) g k
+      (λ n named k. option_and_then_some (head_end n.value) (inputs_first table n.left) g k
       (λ a listed r. head_got ws n a (output_line table a.left) g named listed refl r))
 
   -- the line, by what was read of it
-  head_line_is : (ws : List Word) (n : Got (List ℕ)) (a : Got (List Param)) (z : Param) → name_first ws ≡ Some n → params_first table n.left ≡ Some a → output_line table a.left ≡ Some z → head_line table ws ≡ Some (head_with n.value a.value z)
+  head_line_is : (ws : List Word) (n : Got (List ℕ)) (a : Got (List Param)) (z : Param) → name_first ws ≡ Some n → inputs_first table n.left ≡ Some a → output_line table a.left ≡ Some z → head_line table ws ≡ Some (head_with n.value a.value z)
   head_line_is ws n a z named listed is =
       ap (λ (o : Option (Got (List ℕ))). o >>= head_behind) named ∙ (ap (λ (o : Option (Got (List Param))). o >>= head_end n.value) listed ∙ ap (option_map (head_with n.value a.value)) is)
 
@@ -89,7 +89,7 @@ module _ (ds : List Decl) where
   pub head_reads : (h : HeadTree) (output : List ℕ) (ws : List Word) → WritesHead ds h output (name_word (codes "program") ∷ ws) → 1 ≤ length h.inputs → head_line (table_of ds) ws ≡ Some (line_of h output)
   head_reads h output ws k some =
       ap (λ (y : List Word). head_line (table_of ds) (drop 1 y)) k.is
-      ∙ (ap (λ (o : Option (Got (List Param))). o >>= head_end (table_of ds) h.program) (params_reads (table_of ds) k.params h.inputs (colon ∷ name_word output ∷ colon ∷ k.result ∷ []) k.inputs some)
+      ∙ (ap (λ (o : Option (Got (List Param))). o >>= head_end (table_of ds) h.program) (inputs_reads (table_of ds) k.params h.inputs (colon ∷ name_word output ∷ colon ∷ k.result ∷ []) k.inputs some)
       ∙ ap (option_map (head_with h.program h.inputs)) (out_reads (table_of ds) output h.result k.result k.sort))
 
   module _ (name : List ℕ) where
@@ -98,10 +98,10 @@ module _ (ds : List Decl) where
     begins_of g None h = h
     begins_of g (Some s) h = (subst (MayBegin ds) h.1 h.0, h.1)
 
-    pub head_begun : {X : Type 0} (view : X → List Param) (t u : SymbolTable) (ws l m : List Word) (program : List ℕ) (o : Option X) (i j : X) (z : Param) (r : Option SpecTree) → t ≡ table_of ds → u ≡ table_of ds → name_first ws ≡ Some (got program l) → MatchOption o (params_first t l ≡ None) (λ ps. params_first t l ≡ Some (got (view ps) m)) → o ≡ Some i → output_line u m ≡ Some z → j ≡ i → MatchOption r (MayBegin ds (begun_by ds name (head_with program (view j) z)) → ⊥) (λ s. MayBegin ds s × (s ≡ begun_by ds name (head_with program (view j) z))) → Begins ds name (head_line (table_of ds) ws) r
+    pub head_begun : {X : Type 0} (view : X → List Param) (t u : SymbolTable) (ws l m : List Word) (program : List ℕ) (o : Option X) (i j : X) (z : Param) (r : Option SpecTree) → t ≡ table_of ds → u ≡ table_of ds → name_first ws ≡ Some (got program l) → MatchOption o (inputs_first t l ≡ None) (λ ps. inputs_first t l ≡ Some (got (view ps) m)) → o ≡ Some i → output_line u m ≡ Some z → j ≡ i → MatchOption r (MayBegin ds (begun_by ds name (head_with program (view j) z)) → ⊥) (λ s. MayBegin ds s × (s ≡ begun_by ds name (head_with program (view j) z))) → Begins ds name (head_line (table_of ds) ws) r
     head_begun {X} view t u ws l m program o i j z r is_t is_u named listed is out same h =
-        let found : params_first t l ≡ Some (got (view i) m) = subst (λ (y : Option X). MatchOption y (params_first t l ≡ None) (λ ps. params_first t l ≡ Some (got (view ps) m))) is listed in
-        let line = head_line_is (table_of ds) ws (got program l) (got (view i) m) z named (subst (λ (y : SymbolTable). params_first y l ≡ Some (got (view i) m)) is_t found) (subst (λ (y : SymbolTable). output_line y m ≡ Some z) is_u out) in
+        let found : inputs_first t l ≡ Some (got (view i) m) = subst (λ (y : Option X). MatchOption y (inputs_first t l ≡ None) (λ ps. inputs_first t l ≡ Some (got (view ps) m))) is listed in
+        let line = head_line_is (table_of ds) ws (got program l) (got (view i) m) z named (subst (λ (y : SymbolTable). inputs_first y l ≡ Some (got (view i) m)) is_t found) (subst (λ (y : SymbolTable). output_line y m ≡ Some z) is_u out) in
         subst (λ (y : Option HeadLine). Begins ds name y r) (sym line)
         (begins_of (head_with program (view i) z) r (subst (λ (y : X). MatchOption r (MayBegin ds (begun_by ds name (head_with program (view y) z)) → ⊥) (λ s. MayBegin ds s × (s ≡ begun_by ds name (head_with program (view y) z)))) same h))
 

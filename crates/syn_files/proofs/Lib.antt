@@ -6,7 +6,7 @@ pub mod EntryLaws
 pub mod AxiomLaws
 pub mod WriteOnce
 pub mod LoopLaws
-pub mod ParamLaws
+pub mod InputLaws
 pub mod NameLaws
 pub mod HeadLaws
 pub mod PartLaws

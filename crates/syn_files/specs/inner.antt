@@ -1,6 +1,6 @@
 pub mod Firsts
 pub mod SimpleLines
 pub mod Telling
-pub mod Params
+pub mod Inputs
 pub mod SpecWords
 pub mod SpecTelling

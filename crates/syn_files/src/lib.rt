@@ -5,7 +5,7 @@
 mod axiom_lines;
 mod cursor;
 mod decl_lines;
-mod params;
+mod inputs;
 mod simple_lines;
 mod spec_forms;
 mod spec_head;

@@ -4,7 +4,7 @@ ghost use Rattle.std.specs.Option.{option_map};
 ghost use Rattle.syn_model.specs.Specifications.{IsSpec, MayBegin, given_spec};
 ghost use Rattle.syn_model.specs.declared.spec_part.SpecPart.TheVariants as part;
 ghost use Rattle.syn_model.specs.Tables.{table_of};
-ghost use Rattle.syn_files.specs.inner.Params.{param};
+ghost use Rattle.syn_files.specs.inner.Inputs.{param};
 ghost use Rattle.syn_files.specs.inner.SimpleLines.{title_line};
 ghost use Rattle.syn_files.specs.inner.SpecTelling.{IsOver};
 ghost use Rattle.syn_files.specs.inner.SpecWords as lines;

@@ -11,7 +11,7 @@ use Rattle.syn_model.specs.declared.heads.Head.{Head as HeadTree}
 use Rattle.syn_model.specs.declared.heads.Param.{Param}
 use Rattle.syn_model.specs.Specifications.{MayBegin, SpecTree, bare_spec}
 use Rattle.syn_files.specs.inner.Firsts.{◌>>=◌, Got, ended, is_sign, name_first, name_of, sign_first}
-use Rattle.syn_files.specs.inner.Params.{param_first, params_first}
+use Rattle.syn_files.specs.inner.Inputs.{param_first, inputs_first}
 use Rattle.syn_files.specs.inner.SimpleLines.{title_line}
 
 -- the head of a program, and the name of its output
@@ -28,7 +28,7 @@ output_line table ws = sign_first (codes ":") ws >>= λ c. param_first table c >
 
 -- f(a: S, ..): z: S
 abbrev pub head_line : SymbolTable → List Word → Option HeadLine
-head_line table ws = name_first ws >>= λ n. params_first table n.left >>= λ a. option_map (head_with n.value a.value) (output_line table a.left)
+head_line table ws = name_first ws >>= λ n. inputs_first table n.left >>= λ a. option_map (head_with n.value a.value) (output_line table a.left)
 
 -- the specification of this name over these declarations that the line begins
 abbrev pub begun_by : List Decl → List ℕ → HeadLine → SpecTree

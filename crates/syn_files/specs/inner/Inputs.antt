@@ -26,14 +26,14 @@ abbrev pub with_param : Param → Got (List Param) → Got (List Param)
 with_param p g = got (p ∷ g.value) g.left
 
 -- names with their sorts and commas between, up to a closing bracket
-abbrev pub params_on : SymbolTable → Awaits → List Word → Option (Got (List Param))
-params_on table a [] = None
-params_on table a_name (w ∷ ws) = name_of w >>= λ x. params_on table (a_colon x) ws
-params_on table (a_colon x) (w ∷ ws) = if is_sign (codes ":") w then params_on table (a_sort x) ws else None
-params_on table (a_sort x) (w ∷ ws) = (name_of w >>= sort_named table) >>= λ s. params_on table (an_end (param x s)) ws
-params_on table (an_end p) (w ∷ ws) =
-    if is_sign (codes ")") w then Some (got (p ∷ []) ws) else (if is_sign (codes ",") w then option_map (with_param p) (params_on table a_name ws) else None)
+abbrev pub inputs_on : SymbolTable → Awaits → List Word → Option (Got (List Param))
+inputs_on table a [] = None
+inputs_on table a_name (w ∷ ws) = name_of w >>= λ x. inputs_on table (a_colon x) ws
+inputs_on table (a_colon x) (w ∷ ws) = if is_sign (codes ":") w then inputs_on table (a_sort x) ws else None
+inputs_on table (a_sort x) (w ∷ ws) = (name_of w >>= sort_named table) >>= λ s. inputs_on table (an_end (param x s)) ws
+inputs_on table (an_end p) (w ∷ ws) =
+    if is_sign (codes ")") w then Some (got (p ∷ []) ws) else (if is_sign (codes ",") w then option_map (with_param p) (inputs_on table a_name ws) else None)
 
 -- names with their sorts in brackets
-abbrev pub params_first : SymbolTable → List Word → Option (Got (List Param))
-params_first table ws = sign_first (codes "(") ws >>= params_on table a_name
+abbrev pub inputs_first : SymbolTable → List Word → Option (Got (List Param))
+inputs_first table ws = sign_first (codes "(") ws >>= inputs_on table a_name

@@ -2,8 +2,8 @@
 ghost use Rattle.std.specs.Prelude.{◌≡◌, ◌++◌, ◌∷◌, [], IfOk, MatchOption, None, OnOk, Some, map};
 ghost use Rattle.syn_model.specs.Heads.{given_param};
 ghost use Rattle.syn_files.specs.inner.Firsts.{got};
-ghost use Rattle.syn_files.specs.inner.Params as params;
-ghost use Rattle.syn_files.specs.inner.Params.{a_name, param};
+ghost use Rattle.syn_files.specs.inner.Inputs as params;
+ghost use Rattle.syn_files.specs.inner.Inputs.{a_name, param};
 
 use crate::cursor::Cursor;
 use sqlite_items::Items;
@@ -46,23 +46,23 @@ impl<'a> Cursor<'a> {
         alloc: Global,
         syms: &Symbols,
     ) -> Result<Option<Items<(String, Sort)>>, NoMemory>
-        ensures { IfOk result (λ o. MatchOption o (params.params_first syms.now self.old.left ≡ None) (λ ps. params.params_first syms.now self.old.left ≡ Some (got (map given_param ps) self.new.left))) }
+        ensures { IfOk result (λ o. MatchOption o (params.inputs_first syms.now self.old.left ≡ None) (λ ps. params.inputs_first syms.now self.old.left ≡ Some (got (map given_param ps) self.new.left))) }
     {
         if self.sign(b"(") {
-            self.params_on(alloc, syms)
+            self.inputs_on(alloc, syms)
         } else {
             Ok(None)
         }
     }
 
     /// The same behind the opening bracket.
-    #[tactic(auto, using(crate::proofs::ParamLaws::param_next, crate::proofs::ParamLaws::param_none))]
-    fn params_on(
+    #[tactic(auto, using(crate::proofs::InputLaws::param_next, crate::proofs::InputLaws::param_none))]
+    fn inputs_on(
         &mut self,
         alloc: Global,
         syms: &Symbols,
     ) -> Result<Option<Items<(String, Sort)>>, NoMemory>
-        ensures { IfOk result (λ o. MatchOption o (params.params_on syms.now a_name self.old.left ≡ None) (λ ps. params.params_on syms.now a_name self.old.left ≡ Some (got (map given_param ps) self.new.left))) }
+        ensures { IfOk result (λ o. MatchOption o (params.inputs_on syms.now a_name self.old.left ≡ None) (λ ps. params.inputs_on syms.now a_name self.old.left ≡ Some (got (map given_param ps) self.new.left))) }
     {
         let mut params = Items::new(alloc);
         while let Some((name, sort)) = self.param(syms) {
