@@ -46,10 +46,10 @@ module _ (ds : List Decl) (ws : List Word) where
     axiom_made form stands one = (
       (back, stands, ap (λ (z : List Word). name_word (codes "axiom") ∷ z) (entry_read ws (got name back) is)),
       (λ e h may.
-      let p = axiom_only e h in
-      let q = same_parts p.0 p.2 p.4 in
-      let f : p.1 ≡ bare_qform form = one p.1 (bare_qform form) (subst (λ (z : List Word). Stands z p.1) (sym q.1) p.5) stands in
-      p.3 ∙ (ap (λ (z : List ℕ). decl.Axiom z p.1) (sym q.0) ∙ ap (λ (z : QFormTree). decl.Axiom name z) f)),
+          let p = axiom_only e h in
+          let q = same_parts p.0 p.2 p.4 in
+          let f : p.1 ≡ bare_qform form = one p.1 (bare_qform form) (subst (λ (z : List Word). Stands z p.1) (sym q.1) p.5) stands in
+          p.3 ∙ (ap (λ (z : List ℕ). decl.Axiom z p.1) (sym q.0) ∙ ap (λ (z : QFormTree). decl.Axiom name z) f)),
     )
 
   -- two axioms that a line writes are one

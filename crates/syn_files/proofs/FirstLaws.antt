@@ -133,9 +133,11 @@ module _ (table : SymbolTable) where
       (λ rest is k.
       let p = says None rest g k in
       let all : listed_words (singly (p.0 ∷ p.1)) ≡ p.0 ∷ tail_words p.1 = listed p.0 p.1 in
-      let join : (p.0 ∷ tail_words p.1) ++ close ∷ g.left ≡ ((p.0 ∷ tail_words p.1) ++ close ∷ []) ++ g.left = sym (append_assoc (p.0 ∷ tail_words p.1) (close ∷ []) g.left) in
-      (p.0 ∷ p.1, p.2,
-      sign_read (codes "(") ws rest is ∙ ap (λ (z : List Word). sign_word (codes "(") ∷ z) (p.3 ∙ (join ∙ ap (λ (z : List Word). (z ++ close ∷ []) ++ g.left) (sym all)))))
+      let join : (p.0 ∷ tail_words p.1) ++ close ∷ g.left ≡ ((p.0 ∷ tail_words p.1) ++ close ∷ []) ++ g.left = sym (append_assoc (p.0 ∷ tail_words p.1) (close ∷ []) g.left) in (
+        p.0 ∷ p.1,
+        p.2,
+        sign_read (codes "(") ws rest is ∙ ap (λ (z : List Word). sign_word (codes "(") ∷ z) (p.3 ∙ (join ∙ ap (λ (z : List Word). (z ++ close ∷ []) ++ g.left) (sym all))),
+      ))
 
   on_sorts : (us : List Word) (s : Sort) (ss : List Sort) (rest : List Word) → WriteSorts table ss us → sorts_on table (Some s) (tail_words us ++ close ∷ rest) ≡ Some (got (s ∷ ss) rest)
   on_sorts [] s [] rest h = refl

@@ -7,14 +7,14 @@ use Rattle.syn_term.specs.Symbols.{SymbolTable}
 use Rattle.syn_term.specs.Tokens.{Word}
 use Rattle.syn_form.specs.Grammar.{name_word, sign_word}
 use Rattle.syn_model.specs.declared.decl.Decl.{Decl}
-use Rattle.syn_model.specs.declared.heads.Head.{Head as HeadTree}
-use Rattle.syn_model.specs.declared.heads.Param.{Param}
+use Rattle.syn_model.specs.Heads.{HeadTree}
+use Rattle.syn_model.specs.Heads.{Param}
 use Rattle.syn_model.specs.Specifications.{MayBegin, SpecTree, bare_spec}
 use Rattle.syn_model.specs.Tables.{table_of}
 use Rattle.syn_files.specs.SpecLines.{WritesHead}
 use Rattle.syn_files.specs.Words.{WriteParameters, WritesSort, bracketed, listed_words}
-use Rattle.syn_files.specs.inner.Firsts.{◌>>=◌, Got, got, ended, name_first, sign_first, word_first}
-use Rattle.syn_files.specs.inner.Inputs.{param, param_first, inputs_first}
+use Rattle.syn_files.specs.inner.Firsts.{◌>>=◌, Got, got, ended, name_first, sign_first, word_first, param, param_first}
+use Rattle.syn_files.specs.inner.Inputs.{inputs_first}
 use Rattle.syn_files.specs.inner.SpecWords.{Begins, HeadLine, begun_by, head_line, head_with, output_line}
 use Rattle.syn_files.specs.inner.SpecTelling.{ReadsHead}
 use Rattle.syn_files.proofs.FirstLaws.{ended_read, name_read, sign_read}
@@ -40,9 +40,11 @@ module _ (table : SymbolTable) where
   out_got : (ws c : List Word) (g : Got Param) (z : Param) → sign_first (codes ":") ws ≡ Some c → param_first table c ≡ Some g → ended g.left g.value ≡ Some z → (w : Word) × WritesSort table z.sort w × (ws ≡ colon ∷ name_word z.name ∷ colon ∷ w ∷ [])
   out_got ws c g z signed is e =
       let p = param_read table c g is in
-      let q = ended_read g.left g.value z e in
-      (p.0, subst (λ (y : Param). WritesSort table y.sort p.0) q.1 p.1,
-      sign_read (codes ":") ws c signed ∙ (ap (λ (y : List Word). colon ∷ y) p.2 ∙ (ap (λ (y : List Word). colon ∷ name_word g.value.name ∷ colon ∷ p.0 ∷ y) q.0 ∙ ap (λ (y : Param). colon ∷ name_word y.name ∷ colon ∷ p.0 ∷ []) q.1)))
+      let q = ended_read g.left g.value z e in (
+        p.0,
+        subst (λ (y : Param). WritesSort table y.sort p.0) q.1 p.1,
+        sign_read (codes ":") ws c signed ∙ (ap (λ (y : List Word). colon ∷ y) p.2 ∙ (ap (λ (y : List Word). colon ∷ name_word g.value.name ∷ colon ∷ p.0 ∷ y) q.0 ∙ ap (λ (y : Param). colon ∷ name_word y.name ∷ colon ∷ p.0 ∷ []) q.1)),
+      )
 
   out_read : (ws : List Word) (z : Param) → output_line table ws ≡ Some z → (w : Word) × WritesSort table z.sort w × (ws ≡ colon ∷ name_word z.name ∷ colon ∷ w ∷ [])
   out_read ws z e = option_and_then_some out_behind (sign_first (codes ":") ws) z e

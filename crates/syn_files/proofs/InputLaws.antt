@@ -7,10 +7,10 @@ use Rattle.syn_term.specs.DeclaredSorts.{sort_named}
 use Rattle.syn_term.specs.Symbols.{SymbolTable}
 use Rattle.syn_term.specs.Tokens.{Word}
 use Rattle.syn_form.specs.Grammar.{name_word, sign_word}
-use Rattle.syn_model.specs.declared.heads.Param.{Param}
+use Rattle.syn_model.specs.Heads.{Param}
 use Rattle.syn_files.specs.Words.{WriteParameters, WritesSort, bracketed, comma, listed_words, parameter_words}
-use Rattle.syn_files.specs.inner.Firsts.{◌>>=◌, Got, got, is_sign, name_first, name_of, sign_first, sort_first}
-use Rattle.syn_files.specs.inner.Inputs.{Awaits, a_name, a_colon, a_sort, an_end, param, param_first, inputs_first, inputs_on, with_param}
+use Rattle.syn_files.specs.inner.Firsts.{◌>>=◌, Got, got, is_sign, name_first, name_of, sign_first, sort_first, param, param_first}
+use Rattle.syn_files.specs.inner.Inputs.{Awaits, a_name, a_colon, a_sort, an_end, inputs_first, inputs_on, with_param}
 use Rattle.syn_files.proofs.FirstLaws.{name_read, sign_is, sign_read, sort_read}
 
 abbrev close : Word
@@ -32,9 +32,11 @@ module _ (table : SymbolTable) where
   param_got ws n c None g named signed sorted e = absurd (cc)
   param_got ws n c (Some s) g named signed sorted e =
       let h : got (param n.value s.value) s.left ≡ g = cc in
-      let p = sort_read table c s sorted in
-      (p.0, subst (λ (z : Got Param). WritesSort table z.value.sort p.0) h p.1,
-      named ∙ (ap (λ (z : List Word). name_word n.value ∷ z) (signed ∙ ap (λ (z : List Word). colon ∷ z) p.2) ∙ ap (λ (z : Got Param). name_word z.value.name ∷ colon ∷ p.0 ∷ z.left) h))
+      let p = sort_read table c s sorted in (
+        p.0,
+        subst (λ (z : Got Param). WritesSort table z.value.sort p.0) h p.1,
+        named ∙ (ap (λ (z : List Word). name_word n.value ∷ z) (signed ∙ ap (λ (z : List Word). colon ∷ z) p.2) ∙ ap (λ (z : Got Param). name_word z.value.name ∷ colon ∷ p.0 ∷ z.left) h),
+      )
 
   abbrev sort_behind : List ℕ → List Word → Option (Got Param)
   sort_behind x c = option_map (λ (s : Got Sort). got (param x s.value) s.left) (sort_first table c)
@@ -104,9 +106,13 @@ module _ (table : SymbolTable) where
   says_more p ws g None k e = absurd (cc)
   says_more p ws g (Some r) k e =
       let h : with_param p r ≡ g = cc in
-      let m = k r refl in
-      (r.value, m.0 ∷ m.1, sym (ap (λ (z : Got (List Param)). z.value) h), m.2,
-      ap (λ (z : List Word). comma ∷ z) (m.3 ∙ sym (append_assoc m.0 (tail_lists m.1) (close ∷ r.left))) ∙ ap (λ (z : Got (List Param)). comma ∷ ((m.0 ++ tail_lists m.1) ++ close ∷ z.left)) h)
+      let m = k r refl in (
+        r.value,
+        m.0 ∷ m.1,
+        sym (ap (λ (z : Got (List Param)). z.value) h),
+        m.2,
+        ap (λ (z : List Word). comma ∷ z) (m.3 ∙ sym (append_assoc m.0 (tail_lists m.1) (close ∷ r.left))) ∙ ap (λ (z : Got (List Param)). comma ∷ ((m.0 ++ tail_lists m.1) ++ close ∷ z.left)) h,
+      )
 
   says_comma : (p : Param) (w : Word) (ws : List Word) (g : Got (List Param)) (t : Bool) → is_sign (codes ",") w ≡ t → ((r : Got (List Param)) → inputs_on table a_name ws ≡ Some r → Says a_name ws r) → (if t then option_map (with_param p) (inputs_on table a_name ws) else None) ≡ Some g → Says (an_end p) (w ∷ ws) g
   says_comma p w ws g true there k e = subst (λ (z : Word). Says (an_end p) (z ∷ ws) g) (sym (sign_is (codes ",") w there)) (says_more p ws g (inputs_on table a_name ws) k e)
@@ -148,7 +154,7 @@ module _ (table : SymbolTable) where
       (λ rest is k.
       let m = says a_name rest g k in
       let join : m.0 ++ ends m.1 g.left ≡ (listed_words (m.0 ∷ m.1) ++ close ∷ []) ++ g.left =
-          sym (append_assoc m.0 (tail_lists m.1) (close ∷ g.left)) ∙ (ap (λ (z : List Word). z ++ close ∷ g.left) (sym (listed m.0 m.1)) ∙ sym (append_assoc (listed_words (m.0 ∷ m.1)) (close ∷ []) g.left)) in
+      sym (append_assoc m.0 (tail_lists m.1) (close ∷ g.left)) ∙ (ap (λ (z : List Word). z ++ close ∷ g.left) (sym (listed m.0 m.1)) ∙ sym (append_assoc (listed_words (m.0 ∷ m.1)) (close ∷ []) g.left)) in
       (m.0 ∷ m.1, m.2, sign_read (codes "(") ws rest is ∙ ap (λ (z : List Word). sign_word (codes "(") ∷ z) (m.3 ∙ join)))
 
   on_one : (q : List Word) (qs : List (List Word)) (p : Param) (ps : List Param) (rest : List Word) → WriteParameters table (p ∷ ps) (q ∷ qs) → inputs_on table (an_end p) (ends qs rest) ≡ Some (got (p ∷ ps) rest) → inputs_on table a_name (q ++ ends qs rest) ≡ Some (got (p ∷ ps) rest)

@@ -12,11 +12,12 @@ use Rattle.syn_model.specs.BareTrees.{bare_decl}
 use Rattle.syn_model.specs.Declaring.{MayDeclare}
 use Rattle.syn_model.specs.Tables.{table_of}
 use Rattle.syn_files.specs.TheoryLines.{Writes, own_name}
-use Rattle.syn_files.specs.inner.SimpleLines.{fun_line, rel_line, sort_line}
+use Rattle.syn_files.specs.inner.SimpleLines.{fun_line, mono_line, rel_line, sort_line}
 use Rattle.syn_files.specs.inner.Firsts.{got, name_first}
 use Rattle.syn_files.specs.inner.Telling.{ReadsDecl}
 use Rattle.syn_model.proofs.BareDeclaring.{table_bare}
 use Rattle.syn_files.proofs.FirstLaws.{name_read, same_text}
+use Rattle.syn_files.proofs.MonoLaws.{mono_read, mono_reads}
 use Rattle.syn_files.proofs.SimpleLaws.{fun_read, fun_reads, list_reads, rel_read, rel_reads, sort_read_line, tuple_reads}
 
 abbrev pub keyword : Decl → List ℕ
@@ -69,6 +70,10 @@ module _ (ds : List Decl) where
   sort_only ws (decl.TupleSort name make parts) h may = tuple_reads ds ws name make parts h (let two : 2 ≤ length parts = may.brings.few.0 in omega arith)
   sort_only ws e h may = absurd (apart e (codes "sort") ws refl refl h)
 
+  pub mono_only : (ws : List Word) (e : Decl) → Writes ds e (name_word (codes "mono") ∷ ws) → MayDeclare ds e → mono_line (table_of ds) ws ≡ Some e
+  mono_only ws (decl.Monotone name mono) h may = mono_reads ds ws name mono h
+  mono_only ws e h may = absurd (apart e (codes "mono") ws refl refl h)
+
   -- a line that is read by a function of its words
   module _ (k : List ℕ) (ws : List Word) (line : Option Decl) (only : (e : Decl) → Writes ds e (name_word k ∷ ws) → MayDeclare ds e → line ≡ Some e) (made : (d : Decl) → line ≡ Some d → (d ≡ bare_decl d) × Writes ds d (name_word k ∷ ws)) where
     reads_line : (o : Option Decl) → o ≡ line → ReadsDecl ds (name_word k ∷ ws) o
@@ -87,6 +92,9 @@ module _ (ds : List Decl) where
   fun_made : (ws : List Word) (d : Decl) → fun_line (table_of ds) ws ≡ Some d → (d ≡ bare_decl d) × Writes ds d (name_word (codes "fun") ∷ ws)
   fun_made ws d is = let p = fun_read ds ws d is in (p.3 ∙ sym (ap bare_decl p.3), subst (λ (z : Decl). Writes ds z (name_word (codes "fun") ∷ ws)) (sym p.3) p.4)
 
+  mono_made : (ws : List Word) (d : Decl) → mono_line (table_of ds) ws ≡ Some d → (d ≡ bare_decl d) × Writes ds d (name_word (codes "mono") ∷ ws)
+  mono_made ws d is = let p = mono_read ds ws d is in (p.2 ∙ sym (ap bare_decl p.2), subst (λ (z : Decl). Writes ds z (name_word (codes "mono") ∷ ws)) (sym p.2) p.3)
+
   sort_made : (ws : List Word) (d : Decl) → sort_line (table_of ds) ws ≡ Some d → (d ≡ bare_decl d) × Writes ds d (name_word (codes "sort") ∷ ws)
   sort_made ws d is = elim (sort_read_line ds ws d is) [
     | inl p ↦ (p.4 ∙ sym (ap bare_decl p.4), subst (λ (z : Decl). Writes ds z (name_word (codes "sort") ∷ ws)) (sym p.4) p.5)
@@ -102,6 +110,9 @@ module _ (ds : List Decl) where
 
   pub sort_told : (ws : List Word) (o : Option Decl) → o ≡ sort_line (table_of ds) ws → ReadsDecl ds (name_word (codes "sort") ∷ ws) o
   sort_told ws = reads_line (codes "sort") ws (sort_line (table_of ds) ws) (sort_only ws) (sort_made ws)
+
+  pub mono_told : (ws : List Word) (o : Option Decl) → o ≡ mono_line (table_of ds) ws → ReadsDecl ds (name_word (codes "mono") ∷ ws) o
+  mono_told ws = reads_line (codes "mono") ws (mono_line (table_of ds) ws) (mono_only ws) (mono_made ws)
 
 -- the same over the table of a theory, for a word that was told
 abbrev Told : List Decl → List ℕ → List Word → Option Decl → Type 0
@@ -122,6 +133,12 @@ module _ (ds : List Decl) (table : SymbolTable) (is : table ≡ table_of ds) (k 
 
   pub rel_arm : (t : Bool) → t ≡ bytes_eq k (codes "rel") → t ≡ true → (o : Option Decl) → o ≡ rel_line table ws → Told ds k ws o
   rel_arm t test passed o e = as_word (codes "rel") t o test passed (rel_told (map bare_decl ds) ws o (e ∙ ap (λ (z : SymbolTable). rel_line z ws) same_table))
+
+  pub mono_arm : (t : Bool) → t ≡ bytes_eq k (codes "mono") → t ≡ true → (o : Option Decl) → o ≡ mono_line table ws → Told ds k ws o
+  mono_arm t test passed o e = as_word (codes "mono") t o test passed (mono_told (map bare_decl ds) ws o (e ∙ ap (λ (z : SymbolTable). mono_line z ws) same_table))
+
+  pub axiom_arm : (t : Bool) → t ≡ bytes_eq k (codes "axiom") → t ≡ true → (o : Option Decl) → Told ds (codes "axiom") ws o → Told ds k ws o
+  axiom_arm t test passed o = as_word (codes "axiom") t o test passed
 
 -- what doesn't begin with a name declares nothing
 pub nameless : (ds : List Decl) (words : List Word) → name_first words ≡ None → ReadsDecl ds words None

@@ -4,6 +4,7 @@ pub mod Keywords
 pub mod StepLaws
 pub mod EntryLaws
 pub mod AxiomLaws
+pub mod OrderLaws
 pub mod WriteOnce
 pub mod LoopLaws
 pub mod InputLaws
@@ -13,3 +14,6 @@ pub mod PartLaws
 pub mod SpecSteps
 pub mod TextLoop
 pub mod SpecLoop
+pub mod NumberLaws
+pub mod MonoLaws
+pub mod ParamLaws

@@ -143,11 +143,12 @@ module _ (s : SpecTree) where
 
     pub requires_told : (scope : TextScope) (form : FormTree) → scope ≡ file_scope s.table [] → IsFormOf expression_limit scope back (bare_form form) → OneAtMost (IsFormOf expression_limit scope back) → ReadsPart s requires_line (Some (part.Requires form))
     requires_told scope form is stands one =
-        let here : Requires (bare_form form) = subst (λ (z : TextScope). IsFormOf expression_limit z back (bare_form form)) is stands in
-        ((back, here, refl),
-        (λ q h.
-        let m = requires_only q h in
-        m.1 ∙ ap part.Requires (one m.0 (bare_form form) (subst (λ (z : TextScope). IsFormOf expression_limit z back m.0) (sym is) m.2) stands)))
+        let here : Requires (bare_form form) = subst (λ (z : TextScope). IsFormOf expression_limit z back (bare_form form)) is stands in (
+          (back, here, refl),
+          (λ q h.
+              let m = requires_only q h in
+              m.1 ∙ ap part.Requires (one m.0 (bare_form form) (subst (λ (z : TextScope). IsFormOf expression_limit z back m.0) (sym is) m.2) stands)),
+        )
 
     pub requires_none : (scope : TextScope) → scope ≡ file_scope s.table [] → ((f : FormTree) → IsFormOf expression_limit scope back f → ⊥) → ReadsPart s requires_line None
     requires_none scope is none q h = let m = requires_only q h in none m.0 (subst (λ (z : TextScope). IsFormOf expression_limit z back m.0) (sym is) m.2)
@@ -168,11 +169,12 @@ module _ (s : SpecTree) where
 
     pub ensures_told : (scope : TextScope) (form : QFormTree) → scope ≡ file_scope s.table (output_names s) → IsQFormOf expression_limit scope back (bare_qform form) → OneAtMost (IsQFormOf expression_limit scope back) → ReadsPart s ensures_line (Some (part.Ensures form))
     ensures_told scope form is stands one =
-        let here : Ensures (bare_qform form) = subst (λ (z : TextScope). IsQFormOf expression_limit z back (bare_qform form)) is stands in
-        ((back, here, refl),
-        (λ q h.
-        let m = ensures_only q h in
-        m.1 ∙ ap part.Ensures (one m.0 (bare_qform form) (subst (λ (z : TextScope). IsQFormOf expression_limit z back m.0) (sym is) m.2) stands)))
+        let here : Ensures (bare_qform form) = subst (λ (z : TextScope). IsQFormOf expression_limit z back (bare_qform form)) is stands in (
+          (back, here, refl),
+          (λ q h.
+              let m = ensures_only q h in
+              m.1 ∙ ap part.Ensures (one m.0 (bare_qform form) (subst (λ (z : TextScope). IsQFormOf expression_limit z back m.0) (sym is) m.2) stands)),
+        )
 
     pub ensures_none : (scope : TextScope) → scope ≡ file_scope s.table (output_names s) → ((f : QFormTree) → IsQFormOf expression_limit scope back f → ⊥) → ReadsPart s ensures_line None
     ensures_none scope is none q h = let m = ensures_only q h in none m.0 (subst (λ (z : TextScope). IsQFormOf expression_limit z back m.0) (sym is) m.2)

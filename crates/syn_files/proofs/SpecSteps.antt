@@ -10,7 +10,7 @@ use Rattle.syn_lex.specs.Lexing.{IsTokenWord}
 use Rattle.syn_lex.proofs.Led.{LeadsOnce}
 use Rattle.syn_lex.proofs.NotSpelled.{spelled_tokens}
 use Rattle.syn_model.specs.declared.decl.Decl.{Decl}
-use Rattle.syn_model.specs.declared.heads.Head.{Head as HeadTree}
+use Rattle.syn_model.specs.Heads.{HeadTree}
 use Rattle.syn_model.specs.declared.spec_part.SpecPart.{SpecPart}
 use Rattle.syn_model.specs.BareParts.{bare_part, bare_spec_tree}
 use Rattle.syn_model.specs.Specifications.{MayBegin, MayExtend, SpecTree, bare_spec, with_part}

@@ -1,4 +1,5 @@
 pub mod Words
 pub mod TheoryLines
 pub mod SpecLines
+pub mod Printed
 pub mod inner

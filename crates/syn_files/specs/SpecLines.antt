@@ -9,7 +9,7 @@ use Rattle.syn_form.specs.Texts.{IsFormOf, IsQFormOf, expression_limit}
 use Rattle.syn_model.specs.declared.decl.Decl.{Decl}
 use Rattle.syn_model.specs.declared.spec_part.SpecPart.{SpecPart}
 use Rattle.syn_model.specs.declared.spec_part.SpecPart.TheVariants as part
-use Rattle.syn_model.specs.declared.heads.Head.{Head as HeadTree}
+use Rattle.syn_model.specs.Heads.{HeadTree}
 use Rattle.syn_model.specs.Specifications.{IsWholeSpec, MayBegin, MayExtend, SpecTree, bare_spec, output_var, with_part}
 use Rattle.syn_model.specs.Tables.{table_of}
 use Rattle.syn_files.specs.TheoryLines.{file_scope}

@@ -1,6 +1,6 @@
 -- For public contracts: which line declares what in a theory text. One case for each kind of declaration, beside the table of the
 -- format in docs/FORMATS.md.
-use Rattle.std.specs.Prelude.{◌≡◌, ◌≢◌, ℕ, ◌+◌, ◌≤◌, Bool, true, false, List, [], ◌∷◌, ◌++◌, Option, None, Some, All, codes, length, map}
+use Rattle.std.specs.Prelude.{◌≡◌, ◌≢◌, ℕ, ◌+◌, ◌<◌, ◌≤◌, ◌^◌, Bool, true, false, List, [], ◌∷◌, ◌++◌, Option, None, Some, All, codes, length, map}
 use Rattle.std.specs.List.{flat_map}
 use Rattle.syn_term.specs.declared.sorts.Sort.{Sort}
 use Rattle.syn_term.specs.declared.sorts.SymId.{SymId}
@@ -22,8 +22,7 @@ use Rattle.syn_model.specs.declared.decl.Decl.{Decl}
 use Rattle.syn_model.specs.declared.decl.Decl.TheVariants as decl
 use Rattle.syn_model.specs.Declaring.{MayDeclare}
 use Rattle.syn_model.specs.Headings.{heading_of, is_whole}
-use Rattle.syn_model.specs.declared.heads.Param.{Param}
-use Rattle.syn_model.specs.Heads.{AreDistinct, IsNewName}
+use Rattle.syn_model.specs.Heads.{AreDistinct, IsNewName, Param}
 use Rattle.syn_model.specs.Tables.{table_of}
 use Rattle.syn_model.specs.Theories.{TheoryTree, bare_theory, with_decl}
 use Rattle.syn_files.specs.Words.{WriteParameters, WriteSorts, WritesSort, bracketed, comma, listed_words, number_word, singly}
@@ -75,13 +74,14 @@ abbrev pub WritesGiven : SymbolTable → Option SymId → List Word → Type 0
 WritesGiven table None words = words ≡ []
 WritesGiven table (Some r) words = (x : List ℕ) × (symbol_named table x ≡ Some r) × (words ≡ name_word x ∷ [])
 
--- `mono NAME: REL up SYM K`, and behind it the relation that is given
+-- `mono NAME: REL up SYM K`, and behind it the relation that is given; a number has at most seven digits
 pub record WritesMono (table : SymbolTable) (name : List ℕ) (m : Mono) (words : List Word) : Type 0 where
   pub rel : List ℕ
   pub sym : List ℕ
   pub given : List Word
   pub rel_is : symbol_named table rel ≡ Some m.rel
   pub sym_is : symbol_named table sym ≡ Some m.sym
+  pub few : m.place < 10 ^ 7
   pub given_is : WritesGiven table m.gives given
   pub is : words ≡ name_word (codes "mono") ∷ name_word name ∷ sign_word (codes ":") ∷ name_word rel ∷ name_word (direction m.up) ∷ name_word sym ∷ number_word m.place ∷ given
 

@@ -6,7 +6,7 @@ use Rattle.syn_term.specs.Symbols.{SymbolTable}
 use Rattle.syn_term.specs.DeclaredSorts.{sort_named}
 use Rattle.syn_term.specs.Tokens.{Word}
 use Rattle.syn_form.specs.Grammar.{name_word, sign_word}
-use Rattle.syn_model.specs.declared.heads.Param.{Param}
+use Rattle.syn_model.specs.Heads.{Param}
 
 abbrev pub number_word : ℕ → Word
 number_word n = record { kind = kind.Number; bytes = decimal n }

@@ -21,13 +21,7 @@ pub(crate) fn entry_name<'a>(cursor: &mut Cursor<'a>) -> Option<&'a str>
 {
     match cursor.name() {
         None => None,
-        Some(name) => {
-            if cursor.sign(b":") {
-                Some(name)
-            } else {
-                None
-            }
-        }
+        Some(name) => { if cursor.sign(b":") { Some(name) } else { None } }
     }
 }
 

@@ -1,15 +1,21 @@
 // The words of a line, read from the left. What is read says what stood at the front, and what is left.
-ghost use Rattle.std.specs.Prelude.{◌≡◌, ◌↔◌, [], None, Some, IfOk, IsTrue, MatchOption, false, if◌then◌else◌};
+ghost use Rattle.std.specs.Prelude.{◌≡◌, ◌↔◌, ◌+◌, ◌++◌, [], ◌∷◌, None, OnOk, Some, IfOk, IsTrue, MatchOption, false, if◌then◌else◌};
 ghost use Rattle.std.specs.Str.{bytes_eq};
+ghost use Rattle.syn_term.specs.Tokens as words;
 ghost use Rattle.syn_term.specs.Tokens.{IsToken};
+ghost use Rattle.syn_form.specs.Elaboration as elaboration;
 ghost use Rattle.syn_lex.specs.Lexing.{word};
+ghost use Rattle.syn_expr.specs.Scopes.{listed};
 ghost use Rattle.syn_files.specs.inner.Firsts as firsts;
 ghost use Rattle.syn_files.specs.inner.Firsts.{got};
 
 use sqlite_items::Items;
 use std::alloc::Global;
 use syn_lex::{TokenKind, Words};
-use syn_term::{NoMemory, Sort, Symbols};
+use syn_term::{NoMemory, Sort, SymId, Symbols, Var, decimal_number, is_reserved};
+
+/// The first number with more than seven digits.
+const NUMBER_END: u32 = 10_000_000;
 
 /// The words of a line that are not read yet.
 #[derive(Drop)]
@@ -41,11 +47,105 @@ fn is_sign(kind: TokenKind, bytes: &[u8], sign: &[u8]) -> bool
     }
 }
 
+/// The number that the digits are, where it has at most seven.
+fn small_number(digits: &str) -> Option<u32>
+    ensures { MatchOption result (firsts.number_in digits.now ≡ None) (λ n. firsts.number_in digits.now ≡ Some n) }
+{
+    match decimal_number(digits) {
+        None => None,
+        Some(number) => {
+            if number < NUMBER_END {
+                Some(number)
+            } else {
+                None
+            }
+        }
+    }
+}
+
+/// The number that a word is.
+fn number_of(kind: TokenKind, bytes: &[u8]) -> Option<u32>
+    requires { IsToken kind bytes.now }
+    ensures { MatchOption result (firsts.number_of_kind kind bytes.now ≡ None) (λ n. firsts.number_of_kind kind bytes.now ≡ Some n) }
+{
+    match kind {
+        TokenKind::Number => match str::from_utf8(bytes) {
+            Err(_) => None,
+            Ok(digits) => small_number(digits),
+        },
+        _ => None,
+    }
+}
+
+/// Whether the word is reserved.
+fn is_word(name: &str) -> bool
+    ensures { result ≡ words.is_reserved name.now }
+{
+    is_reserved(name.as_bytes())
+}
+
+/// The symbol with the name. Of the reserved words `s` alone names one.
+fn symbol_named(syms: &Symbols, name: &str) -> Option<SymId>
+    ensures { result ≡ elaboration.symbol_named syms.now name.now }
+{
+    if is_word(name) && !is_text(name, "s") {
+        None
+    } else {
+        syms.find(name)
+    }
+}
+
+/// The direction that the name is: up, or down.
+fn direction_of(name: &str) -> Option<bool>
+    ensures { result ≡ firsts.direction_of name.now }
+{
+    if is_text(name, "up") {
+        Some(true)
+    } else if is_text(name, "down") {
+        Some(false)
+    } else {
+        None
+    }
+}
+
 /// Whether the two texts are one.
 pub(crate) fn is_text(text: &str, other: &str) -> bool
     ensures { result ≡ bytes_eq text.now other.now }
 {
     text == other
+}
+
+/// A name with its sort, as a line has it.
+#[derive(Clone, Copy, Debug)]
+pub(crate) struct GivenName<'a> {
+    pub(crate) name: &'a str,
+    pub(crate) sort: Sort,
+}
+
+/// Puts the name behind the others, as the variable with this number.
+fn push_named(
+    alloc: Global,
+    names: &mut Vec<(String, Var)>,
+    name: &str,
+    var: Var,
+) -> Result<(), NoMemory>
+    ensures { OnOk result (listed names.new.items ≡ listed names.old.items ++ firsts.named name.now var ∷ []) }
+{
+    let text = String::from_str(alloc, name)?;
+    match names.push((text, var)) {
+        Ok(()) => Ok(()),
+        Err(_) => Err(NoMemory),
+    }
+}
+
+/// The number behind this one. The one error is that there is none, which counts as want of memory.
+fn next_number(number: u32) -> Result<u32, NoMemory>
+    ensures { IfOk result (λ n. n ≡ number + 1) }
+{
+    match number.checked_add(1) {
+        None => Err(NoMemory),
+        Some(next) => Ok(next),
+    }
 }
 
 impl<'a> Cursor<'a> {
@@ -106,6 +206,100 @@ impl<'a> Cursor<'a> {
         }
     }
 
+    /// The number at the front.
+    pub(crate) fn number(&mut self) -> Option<u32>
+        ensures { MatchOption result (firsts.number_first self.old.left ≡ None) (λ n. firsts.number_first self.old.left ≡ Some (got n self.new.left)) }
+    {
+        match self.left.get(0) {
+            None => None,
+            Some((kind, bytes)) => {
+                self.left = self.left.from(1);
+                number_of(kind, bytes)
+            }
+        }
+    }
+
+    /// The symbol at the front.
+    pub(crate) fn symbol(&mut self, syms: &Symbols) -> Option<SymId>
+        ensures { MatchOption result (firsts.symbol_first syms.now self.old.left ≡ None) (λ f. firsts.symbol_first syms.now self.old.left ≡ Some (got f self.new.left)) }
+    {
+        match self.name() {
+            None => None,
+            Some(name) => symbol_named(syms, name),
+        }
+    }
+
+    /// The direction at the front, `up` or `down`.
+    pub(crate) fn direction(&mut self) -> Option<bool>
+        ensures { MatchOption result (firsts.direction_first self.old.left ≡ None) (λ b. firsts.direction_first self.old.left ≡ Some (got b self.new.left)) }
+    {
+        match self.name() {
+            None => None,
+            Some(name) => direction_of(name),
+        }
+    }
+
+    /// The name at the front with the sort behind its colon.
+    pub(crate) fn given(&mut self, syms: &Symbols) -> Option<GivenName<'a>>
+        ensures { MatchOption result (firsts.param_first syms.now self.old.left ≡ None) (λ g. firsts.param_first syms.now self.old.left ≡ Some (got (firsts.param g.name.now g.sort) self.new.left)) }
+    {
+        match self.name() {
+            None => None,
+            Some(name) => {
+                if !self.sign(b":") {
+                    return None;
+                }
+                match self.sort(syms) {
+                    None => None,
+                    Some(sort) => Some(GivenName { name, sort }),
+                }
+            }
+        }
+    }
+
+    /// The names with their sorts in brackets at the front, with commas between, as variables numbered
+    /// from 1. The one error is want of memory.
+    pub(crate) fn params(
+        &mut self,
+        alloc: Global,
+        syms: &Symbols,
+    ) -> Result<Option<Vec<(String, Var)>>, NoMemory>
+        ensures { IfOk result (λ o. MatchOption o (firsts.params_first syms.now self.old.left ≡ None) (λ ps. firsts.params_first syms.now self.old.left ≡ Some (got (listed ps.items) self.new.left))) }
+    {
+        if self.sign(b"(") {
+            self.params_on(alloc, syms)
+        } else {
+            Ok(None)
+        }
+    }
+
+    /// The same behind the opening bracket.
+    fn params_on(
+        &mut self,
+        alloc: Global,
+        syms: &Symbols,
+    ) -> Result<Option<Vec<(String, Var)>>, NoMemory>
+        ensures { IfOk result (λ o. MatchOption o (firsts.params_on syms.now 1 None self.old.left ≡ None) (λ ps. firsts.params_on syms.now 1 None self.old.left ≡ Some (got (listed ps.items) self.new.left))) }
+    {
+        let mut names = Vec::new(alloc);
+        let mut number = 1;
+        while let Some(given) = self.given(syms) {
+            let var = Var {
+                number,
+                sort: given.sort,
+            };
+            push_named(alloc, &mut names, given.name, var)?;
+            number = next_number(number)?;
+            if self.sign(b")") {
+                return Ok(Some(names));
+            }
+            if !self.sign(b",") {
+                return Ok(None);
+            }
+        }
+        Ok(None)
+    }
+
     /// The sorts in brackets at the front, with commas between. The one error is want of memory.
     pub(crate) fn sorts(
         &mut self,
@@ -122,11 +316,7 @@ impl<'a> Cursor<'a> {
     }
 
     /// The same behind the opening bracket.
-    fn sorts_on(
-        &mut self,
-        alloc: Global,
-        syms: &Symbols,
-    ) -> Result<Option<Items<Sort>>, NoMemory>
+    fn sorts_on(&mut self, alloc: Global, syms: &Symbols) -> Result<Option<Items<Sort>>, NoMemory>
         ensures { IfOk result (λ o. MatchOption o (firsts.sorts_on syms.now None self.old.left ≡ None) (λ ss. firsts.sorts_on syms.now None self.old.left ≡ Some (got ss self.new.left))) }
     {
         let mut sorts = Items::new(alloc);

@@ -8,6 +8,7 @@ ghost use Rattle.syn_files.specs.inner.Telling.{IsOtherKeyword, ReadsDecl};
 
 use crate::axiom_lines::axiom_line;
 use crate::cursor::{Cursor, is_text};
+use crate::mono_lines::mono_line;
 use crate::simple_lines::{fun_line, rel_line, sort_line};
 use std::alloc::Global;
 use syn_lex::Words;
@@ -29,6 +30,9 @@ fn with_expressions(
 {
     if is_text(keyword, "axiom") {
         return axiom_line(alloc, bank, theory, cursor);
+    }
+    if is_text(keyword, "mono") {
+        return mono_line(alloc, theory.symbols(), cursor);
     }
     Ok(None)
 }

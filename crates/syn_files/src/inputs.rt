@@ -1,52 +1,36 @@
-// Names with their sorts at the front of words: the parameters of an order, the inputs of a program.
+// Names with their sorts in brackets at the front of words, as the inputs of a program.
 ghost use Rattle.std.specs.Prelude.{◌≡◌, ◌++◌, ◌∷◌, [], IfOk, MatchOption, None, OnOk, Some, map};
 ghost use Rattle.syn_model.specs.Heads.{given_param};
-ghost use Rattle.syn_files.specs.inner.Firsts.{got};
-ghost use Rattle.syn_files.specs.inner.Inputs as params;
-ghost use Rattle.syn_files.specs.inner.Inputs.{a_name, param};
+ghost use Rattle.syn_files.specs.inner.Firsts.{got, param};
+ghost use Rattle.syn_files.specs.inner.Inputs as inputs;
+ghost use Rattle.syn_files.specs.inner.Inputs.{a_name};
 
 use crate::cursor::Cursor;
 use sqlite_items::Items;
 use std::alloc::Global;
 use syn_term::{NoMemory, Sort, Symbols};
 
-fn push_param(
+fn push_input(
     alloc: Global,
-    params: &mut Items<(String, Sort)>,
+    inputs: &mut Items<(String, Sort)>,
     name: &str,
     sort: Sort,
 ) -> Result<(), NoMemory>
-    ensures { OnOk result (map given_param params.new ≡ map given_param params.old ++ param name.now sort ∷ []) }
+    ensures { OnOk result (map given_param inputs.new ≡ map given_param inputs.old ++ param name.now sort ∷ []) }
 {
-    params.push((String::from_str(alloc, name)?, sort))?;
+    inputs.push((String::from_str(alloc, name)?, sort))?;
     Ok(())
 }
 
 impl<'a> Cursor<'a> {
-    /// The name and the sort at the front, with a colon between.
-    pub(crate) fn param(&mut self, syms: &Symbols) -> Option<(&'a str, Sort)>
-        ensures { MatchOption result (params.param_first syms.now self.old.left ≡ None) (λ p. params.param_first syms.now self.old.left ≡ Some (got (param p.0.now p.1) self.new.left)) }
-    {
-        let Some(name) = self.name() else {
-            return None;
-        };
-        if !self.sign(b":") {
-            return None;
-        }
-        match self.sort(syms) {
-            None => None,
-            Some(sort) => Some((name, sort)),
-        }
-    }
-
     /// The names with their sorts in brackets at the front, with commas between. The one error is want of
     /// memory.
-    pub(crate) fn params(
+    pub(crate) fn inputs(
         &mut self,
         alloc: Global,
         syms: &Symbols,
     ) -> Result<Option<Items<(String, Sort)>>, NoMemory>
-        ensures { IfOk result (λ o. MatchOption o (params.inputs_first syms.now self.old.left ≡ None) (λ ps. params.inputs_first syms.now self.old.left ≡ Some (got (map given_param ps) self.new.left))) }
+        ensures { IfOk result (λ o. MatchOption o (inputs.inputs_first syms.now self.old.left ≡ None) (λ ps. inputs.inputs_first syms.now self.old.left ≡ Some (got (map given_param ps) self.new.left))) }
     {
         if self.sign(b"(") {
             self.inputs_on(alloc, syms)
@@ -62,13 +46,13 @@ impl<'a> Cursor<'a> {
         alloc: Global,
         syms: &Symbols,
     ) -> Result<Option<Items<(String, Sort)>>, NoMemory>
-        ensures { IfOk result (λ o. MatchOption o (params.inputs_on syms.now a_name self.old.left ≡ None) (λ ps. params.inputs_on syms.now a_name self.old.left ≡ Some (got (map given_param ps) self.new.left))) }
+        ensures { IfOk result (λ o. MatchOption o (inputs.inputs_on syms.now a_name self.old.left ≡ None) (λ ps. inputs.inputs_on syms.now a_name self.old.left ≡ Some (got (map given_param ps) self.new.left))) }
     {
-        let mut params = Items::new(alloc);
-        while let Some((name, sort)) = self.param(syms) {
-            push_param(alloc, &mut params, name, sort)?;
+        let mut inputs = Items::new(alloc);
+        while let Some(given) = self.given(syms) {
+            push_input(alloc, &mut inputs, given.name, given.sort)?;
             if self.sign(b")") {
-                return Ok(Some(params));
+                return Ok(Some(inputs));
             }
             if !self.sign(b",") {
                 return Ok(None);

@@ -6,6 +6,7 @@ mod axiom_lines;
 mod cursor;
 mod decl_lines;
 mod inputs;
+mod mono_lines;
 mod simple_lines;
 mod spec_forms;
 mod spec_head;

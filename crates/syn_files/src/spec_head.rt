@@ -22,13 +22,7 @@ fn spec_name<'a>(words: &Words<'a>) -> Option<&'a str>
     }
     match cursor.name() {
         None => None,
-        Some(name) => {
-            if cursor.is_empty() {
-                Some(name)
-            } else {
-                None
-            }
-        }
+        Some(name) => { if cursor.is_empty() { Some(name) } else { None } }
     }
 }
 

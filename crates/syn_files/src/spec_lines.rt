@@ -4,25 +4,25 @@ ghost use Rattle.std.specs.Option.{option_map};
 ghost use Rattle.syn_model.specs.Specifications.{IsSpec, MayBegin, given_spec};
 ghost use Rattle.syn_model.specs.declared.spec_part.SpecPart.TheVariants as part;
 ghost use Rattle.syn_model.specs.Tables.{table_of};
-ghost use Rattle.syn_files.specs.inner.Inputs.{param};
+ghost use Rattle.syn_files.specs.inner.Firsts.{param};
 ghost use Rattle.syn_files.specs.inner.SimpleLines.{title_line};
 ghost use Rattle.syn_files.specs.inner.SpecTelling.{IsOver};
 ghost use Rattle.syn_files.specs.inner.SpecWords as lines;
 
-use crate::cursor::{Cursor, is_text};
+use crate::cursor::{Cursor, GivenName, is_text};
 use sqlite_items::Items;
 use std::alloc::Global;
 use syn_model::{DeclError, Spec, SpecPart, Theory};
 use syn_term::{NoMemory, Sort, Symbols, Text};
 
 /// `: z: S`: the name and the sort of the output, at the end of a head.
-fn output_line<'a>(syms: &Symbols, cursor: &mut Cursor<'a>) -> Option<(&'a str, Sort)>
-    ensures { MatchOption result (lines.output_line syms.now cursor.old.left ≡ None) (λ z. lines.output_line syms.now cursor.old.left ≡ Some (param z.0.now z.1)) }
+fn output_line<'a>(syms: &Symbols, cursor: &mut Cursor<'a>) -> Option<GivenName<'a>>
+    ensures { MatchOption result (lines.output_line syms.now cursor.old.left ≡ None) (λ z. lines.output_line syms.now cursor.old.left ≡ Some (param z.name.now z.sort)) }
 {
     if !cursor.sign(b":") {
         return None;
     }
-    match cursor.param(syms) {
+    match cursor.given(syms) {
         None => None,
         Some(output) => {
             if cursor.is_empty() {
@@ -67,7 +67,7 @@ pub(crate) fn head_line(
     let Some(program) = cursor.name() else {
         return Ok(None);
     };
-    let Some(inputs) = cursor.params(alloc, theory.symbols())? else {
+    let Some(inputs) = cursor.inputs(alloc, theory.symbols())? else {
         return Ok(None);
     };
     match output_line(theory.symbols(), cursor) {
@@ -75,14 +75,14 @@ pub(crate) fn head_line(
             drop(inputs);
             Ok(None)
         }
-        Some((output, value)) => begun(
+        Some(output) => begun(
             alloc,
             theory,
             name,
             program,
             inputs.as_slice(),
-            output,
-            value,
+            output.name,
+            output.sort,
         ),
     }
 }

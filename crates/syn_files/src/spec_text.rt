@@ -161,12 +161,7 @@ fn finished(progress: SpecProgress, cut: &Cut) -> Result<Spec, FileError>
 }
 
 #[tactic(auto, using(syn_expr::proofs::Growth::growth))]
-fn spec_in(
-    alloc: Global,
-    bank: &mut Bank,
-    theory: &Theory,
-    cut: &Cut,
-) -> Result<Spec, FileError>
+fn spec_in(alloc: Global, bank: &mut Bank, theory: &Theory, cut: &Cut) -> Result<Spec, FileError>
     ensures answer { (bytes : List ℕ) → IsCut bytes (map (λ line. line.now) cut.now.lines.items) cut.now.rest.now → ReadsText (SpecLine (theory.now).decls) nothing IsWholeText (λ s. known (bare_spec_tree s)) bytes result }
     ensures spec { IfOk result (IsSpec (theory.now).decls) }
     ensures extends { Extends bank.old bank.new }

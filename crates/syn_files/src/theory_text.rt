@@ -83,12 +83,7 @@ impl Progress {
 
     /// Goes on by a line. Whether it leads on is the answer.
     #[tactic(auto, using(syn_expr::proofs::Growth::growth))]
-    fn take_line(
-        &mut self,
-        alloc: Global,
-        bank: &mut Bank,
-        line: &[u8],
-    ) -> Result<bool, NoMemory>
+    fn take_line(&mut self, alloc: Global, bank: &mut Bank, line: &[u8]) -> Result<bool, NoMemory>
         ensures taken { IfOk result (TakesLine (seen self.old.theory) line.now (seen self.new.theory)) }
         ensures extends { Extends bank.old bank.new }
     {

@@ -1,10 +1,9 @@
 -- What holds of each node of a tree, where it doesn't look at places, holds of the tree without its places just where it holds of
 -- the tree. So a tree without places is sorted, formed and plain where the tree is.
-use Rattle.std.proofs.Common.{◌≡◌, ◌≢◌, ◌↔◌, ℕ, ◌≤◌, List, [], ◌∷◌, ◌++◌, All, Some, map, length, get_or, refl, sym, ◌∙◌, ap, subst}
-use Rattle.std.specs.List.{flat_map, range_with_len}
+use Rattle.std.proofs.Common.{◌≡◌, ◌≢◌, ◌↔◌, ℕ, ◌≤◌, List, [], ◌∷◌, ◌++◌, All, map, length, get_or, refl, sym, ◌∙◌, ap, subst}
+use Rattle.std.specs.List.{range_with_len}
 use Rattle.std.proofs.lemmas.List.{length-map}
 use Rattle.std.proofs.lemmas.List.Elements.{All-nil, All-cons, All-head, All-tail}
-use Rattle.syn_term.specs.declared.sorts.Sort.{Sort}
 use Rattle.syn_term.specs.declared.sorts.SymId.{SymId}
 use Rattle.syn_term.specs.declared.sorts.Var.{Var}
 use Rattle.syn_term.specs.declared.term.Place.{Place}
@@ -18,20 +17,17 @@ use Rattle.syn_form.specs.declared.trees.Binder.{Binder}
 use Rattle.syn_form.specs.declared.trees.Form.{Form, every-Form, every_here-Form}
 use Rattle.syn_form.specs.declared.trees.Form.TheOpen.{Form-F}
 use Rattle.syn_form.specs.declared.trees.Form.TheVariants as form
-use Rattle.syn_form.specs.declared.trees.Form.TheViews as view
 use Rattle.syn_form.specs.declared.trees.Out.{Out, every-Out, every_here-Out}
 use Rattle.syn_form.specs.declared.trees.Out.TheOpen.{Out-F}
 use Rattle.syn_form.specs.declared.trees.Out.TheVariants as out
-use Rattle.syn_form.specs.declared.trees.Out.TheViews as out_view
 use Rattle.syn_form.specs.declared.trees.QForm.{QForm, every-QForm}
 use Rattle.syn_form.specs.declared.trees.QForm.TheOpen.{QForm-F}
 use Rattle.syn_form.specs.declared.trees.QForm.TheVariants as qform
-use Rattle.syn_form.specs.declared.trees.QForm.TheViews as qview
 use Rattle.syn_form.specs.Plain.{HasOneSortEach, IsAtom, IsFormed, IsFormedOut, IsPlainForm, IsPlainOut, IsSorted, PlainFormNode, PlainOutNode, SortedNode, given_sort}
 use Rattle.syn_form.specs.PlainQuantified.{BindsOnce, IsFormedQ, IsPlainQForm, IsUnbound, MayBind, binders_of, binders_step}
-use Rattle.syn_form.specs.Quantified.{bare_qform, bare_qform_step, free_vars, free_vars_step, qform_vars, without}
+use Rattle.syn_form.specs.Quantified.{bare_qform, bare_qform_step, free_vars, free_vars_step, without}
 use Rattle.syn_form.specs.Simplification.{Junction, conjunction, disjunction, chain}
-use Rattle.syn_form.specs.Trees.{FormTree, OutTree, QFormTree, all_of, bare_form, bare_out, form_vars, out_vars, term_vars}
+use Rattle.syn_form.specs.Trees.{FormTree, OutTree, QFormTree, all_of, bare_form, bare_out, term_vars}
 use Rattle.syn_form.proofs.BareVars.{form_vars_bare, given_bare, out_vars_bare, qform_vars_bare, term_vars_bare, vars_bare}
 use Rattle.syn_form.proofs.Equations.{bare_form-True, bare_form-False, bare_form-Atom, bare_form-Equal, bare_form-Not, bare_form-And, bare_form-Or, bare_form-Implies, bare_out-Give, bare_out-If, out-Atom, out-Give}
 use Rattle.syn_form.proofs.Inductions.{by_form_cases, by_out_cases}
@@ -66,9 +62,10 @@ pub both_all : {X : Type 0} (P Q : X → Type 0) (g : X → X) (xs : List X) →
 both_all P Q g [] h = ((λ _. All-nil Q), (λ _. All-nil P))
 both_all {X} P Q g (x ∷ xs) h =
     let p = All-head (λ (y : X). P (g y) ↔ Q y) x xs h in
-    let r = both_all P Q g xs (All-tail (λ (y : X). P (g y) ↔ Q y) x xs h) in
-    ((λ k. All-cons Q x xs (p.0 (All-head P (g x) (map g xs) k)) (r.0 (All-tail P (g x) (map g xs) k))),
-    (λ k. All-cons P (g x) (map g xs) (p.1 (All-head Q x xs k)) (r.1 (All-tail Q x xs k))))
+    let r = both_all P Q g xs (All-tail (λ (y : X). P (g y) ↔ Q y) x xs h) in (
+      (λ k. All-cons Q x xs (p.0 (All-head P (g x) (map g xs) k)) (r.0 (All-tail P (g x) (map g xs) k))),
+      (λ k. All-cons P (g x) (map g xs) (p.1 (All-head Q x xs k)) (r.1 (All-tail Q x xs k))),
+    )
 
 pub both_each : {X : Type 0} (P Q : X → Type 0) (g : X → X) (xs : List X) → ((x : X) → P (g x) ↔ Q x) → All P (map g xs) ↔ All Q xs
 both_each P Q g xs h = both_all P Q g xs (λ k d lt. h (get_or xs k d))
@@ -87,13 +84,15 @@ module _ (Q : Node-F Node → Type 0) (past : PastTerms Q) where
 
   pub every_bare : (t : TermTree) → every-Node Q (bare t) ↔ every-Node Q t
   every_bare = terms.by_term_cases BothTerm
-      (λ p v.
-      ((λ h. terms.every-Var Q p v ((past.at_var p v).0 (terms.node-Var Q nowhere v (subst (every-Node Q) (bare-Var p v) h)))),
-      (λ h. subst (every-Node Q) (sym (bare-Var p v)) (terms.every-Var Q nowhere v ((past.at_var p v).1 (terms.node-Var Q p v h))))))
+      (λ p v. (
+        (λ h. terms.every-Var Q p v ((past.at_var p v).0 (terms.node-Var Q nowhere v (subst (every-Node Q) (bare-Var p v) h)))),
+        (λ h. subst (every-Node Q) (sym (bare-Var p v)) (terms.every-Var Q nowhere v ((past.at_var p v).1 (terms.node-Var Q p v h)))),
+      ))
       (λ p f args held.
-      let both = both_all (every-Node Q) (every-Node Q) bare args held in
-      ((λ h. let k = subst (every-Node Q) (bare-App p f args) h in terms.every-App Q p f args ((past.at_app p f args).0 (terms.node-App Q nowhere f (map bare args) k)) (both.0 (terms.parts-App Q nowhere f (map bare args) k))),
-      (λ h. subst (every-Node Q) (sym (bare-App p f args)) (terms.every-App Q nowhere f (map bare args) ((past.at_app p f args).1 (terms.node-App Q p f args h)) (both.1 (terms.parts-App Q p f args h))))))
+      let both = both_all (every-Node Q) (every-Node Q) bare args held in (
+        (λ h. let k = subst (every-Node Q) (bare-App p f args) h in terms.every-App Q p f args ((past.at_app p f args).0 (terms.node-App Q nowhere f (map bare args) k)) (both.0 (terms.parts-App Q nowhere f (map bare args) k))),
+        (λ h. subst (every-Node Q) (sym (bare-App p f args)) (terms.every-App Q nowhere f (map bare args) ((past.at_app p f args).1 (terms.node-App Q p f args h)) (both.1 (terms.parts-App Q p f args h)))),
+      ))
 
 chain_bare : (j : Junction) (all : List FormTree) → bare_form (chain j all) ≡ chain j (map bare_form all)
 chain_bare conjunction all = bare_form-And all
@@ -120,22 +119,27 @@ module _ (Q : Form-F Form → Type 0) (past : PastForms Q) where
   every_bare_form = by_form_cases BothForm record {
     at_true = both_along (every-Form Q) (bare_form form.True) form.True bare_form-True;
     at_false = both_along (every-Form Q) (bare_form form.False) form.False bare_form-False;
-    at_atom = λ r args.
-    ((λ h. nodes.every-Atom Q r args ((past.at_atom r args).0 (node-Atom r (map bare args) (subst (every-Form Q) (bare_form-Atom r args) h)))),
-    (λ h. subst (every-Form Q) (sym (bare_form-Atom r args)) (nodes.every-Atom Q r (map bare args) ((past.at_atom r args).1 (node-Atom r args h)))));
-    at_equal = λ s t.
-    ((λ h. nodes.every-Equal Q s t ((past.at_equal s t).0 (nodes.node-Equal Q (bare s) (bare t) (subst (every-Form Q) (bare_form-Equal s t) h)))),
-    (λ h. subst (every-Form Q) (sym (bare_form-Equal s t)) (nodes.every-Equal Q (bare s) (bare t) ((past.at_equal s t).1 (nodes.node-Equal Q s t h)))));
-    at_not = λ a both.
-    ((λ h. nodes.every-Not Q a (past.at_not a) (both.0 (nodes.part-Not Q (bare_form a) (subst (every-Form Q) (bare_form-Not a) h)))),
-    (λ h. subst (every-Form Q) (sym (bare_form-Not a)) (nodes.every-Not Q (bare_form a) (past.at_not (bare_form a)) (both.1 (nodes.part-Not Q a h)))));
+    at_atom = λ r args. (
+      (λ h. nodes.every-Atom Q r args ((past.at_atom r args).0 (node-Atom r (map bare args) (subst (every-Form Q) (bare_form-Atom r args) h)))),
+      (λ h. subst (every-Form Q) (sym (bare_form-Atom r args)) (nodes.every-Atom Q r (map bare args) ((past.at_atom r args).1 (node-Atom r args h)))),
+    );
+    at_equal = λ s t. (
+      (λ h. nodes.every-Equal Q s t ((past.at_equal s t).0 (nodes.node-Equal Q (bare s) (bare t) (subst (every-Form Q) (bare_form-Equal s t) h)))),
+      (λ h. subst (every-Form Q) (sym (bare_form-Equal s t)) (nodes.every-Equal Q (bare s) (bare t) ((past.at_equal s t).1 (nodes.node-Equal Q s t h)))),
+    );
+    at_not = λ a both. (
+      (λ h. nodes.every-Not Q a (past.at_not a) (both.0 (nodes.part-Not Q (bare_form a) (subst (every-Form Q) (bare_form-Not a) h)))),
+      (λ h. subst (every-Form Q) (sym (bare_form-Not a)) (nodes.every-Not Q (bare_form a) (past.at_not (bare_form a)) (both.1 (nodes.part-Not Q a h)))),
+    );
     at_chain = λ j all held.
-    let both = both_all (every-Form Q) (every-Form Q) bare_form all held in
-    ((λ h. let k = subst (every-Form Q) (chain_bare j all) h in nodes.every-chain Q j all ((past.at_chain j all).0 (nodes.node-chain Q j (map bare_form all) k)) (both.0 (nodes.parts-chain Q j (map bare_form all) k))),
-    (λ h. subst (every-Form Q) (sym (chain_bare j all)) (nodes.every-chain Q j (map bare_form all) ((past.at_chain j all).1 (nodes.node-chain Q j all h)) (both.1 (nodes.parts-chain Q j all h)))));
-    at_implies = λ a b first second.
-    ((λ h. let k = nodes.parts-Implies Q (bare_form a) (bare_form b) (subst (every-Form Q) (bare_form-Implies a b) h) in nodes.every-Implies Q a b (past.at_implies a b) (first.0 k.0) (second.0 k.1)),
-    (λ h. let k = nodes.parts-Implies Q a b h in subst (every-Form Q) (sym (bare_form-Implies a b)) (nodes.every-Implies Q (bare_form a) (bare_form b) (past.at_implies (bare_form a) (bare_form b)) (first.1 k.0) (second.1 k.1))));
+        let both = both_all (every-Form Q) (every-Form Q) bare_form all held in (
+          (λ h. let k = subst (every-Form Q) (chain_bare j all) h in nodes.every-chain Q j all ((past.at_chain j all).0 (nodes.node-chain Q j (map bare_form all) k)) (both.0 (nodes.parts-chain Q j (map bare_form all) k))),
+          (λ h. subst (every-Form Q) (sym (chain_bare j all)) (nodes.every-chain Q j (map bare_form all) ((past.at_chain j all).1 (nodes.node-chain Q j all h)) (both.1 (nodes.parts-chain Q j all h)))),
+        );
+    at_implies = λ a b first second. (
+      (λ h. let k = nodes.parts-Implies Q (bare_form a) (bare_form b) (subst (every-Form Q) (bare_form-Implies a b) h) in nodes.every-Implies Q a b (past.at_implies a b) (first.0 k.0) (second.0 k.1)),
+      (λ h. let k = nodes.parts-Implies Q a b h in subst (every-Form Q) (sym (bare_form-Implies a b)) (nodes.every-Implies Q (bare_form a) (bare_form b) (past.at_implies (bare_form a) (bare_form b)) (first.1 k.0) (second.1 k.1))),
+    );
   }
 
 -- and of outputs
@@ -152,12 +156,14 @@ module _ (Q : Out-F Out → Type 0) (past : PastOuts Q) where
 
   pub every_bare_out : (o : OutTree) → every-Out Q (bare_out o) ↔ every-Out Q o
   every_bare_out = by_out_cases BothOut record {
-    at_give = λ t.
-    ((λ h. nodes.every-Give Q t ((past.at_give t).0 (node-Give (bare t) (subst (every-Out Q) (bare_out-Give t) h)))),
-    (λ h. subst (every-Out Q) (sym (bare_out-Give t)) (nodes.every-Give Q (bare t) ((past.at_give t).1 (node-Give t h)))));
-    at_if = λ f u v first second.
-    ((λ h. let k = subst (every-Out Q) (bare_out-If f u v) h in let p = nodes.parts-If Q (bare_form f) (bare_out u) (bare_out v) k in nodes.every-If Q f u v ((past.at_if f u v).0 (nodes.node-If Q (bare_form f) (bare_out u) (bare_out v) k)) (first.0 p.0) (second.0 p.1)),
-    (λ h. let p = nodes.parts-If Q f u v h in subst (every-Out Q) (sym (bare_out-If f u v)) (nodes.every-If Q (bare_form f) (bare_out u) (bare_out v) ((past.at_if f u v).1 (nodes.node-If Q f u v h)) (first.1 p.0) (second.1 p.1))));
+    at_give = λ t. (
+      (λ h. nodes.every-Give Q t ((past.at_give t).0 (node-Give (bare t) (subst (every-Out Q) (bare_out-Give t) h)))),
+      (λ h. subst (every-Out Q) (sym (bare_out-Give t)) (nodes.every-Give Q (bare t) ((past.at_give t).1 (node-Give t h)))),
+    );
+    at_if = λ f u v first second. (
+      (λ h. let k = subst (every-Out Q) (bare_out-If f u v) h in let p = nodes.parts-If Q (bare_form f) (bare_out u) (bare_out v) k in nodes.every-If Q f u v ((past.at_if f u v).0 (nodes.node-If Q (bare_form f) (bare_out u) (bare_out v) k)) (first.0 p.0) (second.0 p.1)),
+      (λ h. let p = nodes.parts-If Q f u v h in subst (every-Out Q) (sym (bare_out-If f u v)) (nodes.every-If Q (bare_form f) (bare_out u) (bare_out v) ((past.at_if f u v).1 (nodes.node-If Q f u v h)) (first.1 p.0) (second.1 p.1))),
+    );
   }
 
 -- and of formulas with quantifiers
@@ -184,32 +190,40 @@ module _ (Q : QForm-F QForm → Type 0) (past : PastQForms Q) where
   every_bare_qform = by_qform_cases BothQForm record {
     at_true = both_along E (bare_qform qform.True) qform.True (qfold-True bare_qform_step);
     at_false = both_along E (bare_qform qform.False) qform.False (qfold-False bare_qform_step);
-    at_atom = λ r args.
-    ((λ h. qnodes.every-Atom Q r args ((past.at_atom r args).0 (qnodes.node-Atom Q r (map bare args) (subst E (qfold-Atom bare_qform_step r args) h)))),
-    (λ h. subst E (sym (qfold-Atom bare_qform_step r args)) (qnodes.every-Atom Q r (map bare args) ((past.at_atom r args).1 (qnodes.node-Atom Q r args h)))));
-    at_equal = λ s t.
-    ((λ h. qnodes.every-Equal Q s t ((past.at_equal s t).0 (qnodes.node-Equal Q (bare s) (bare t) (subst E (qfold-Equal bare_qform_step s t) h)))),
-    (λ h. subst E (sym (qfold-Equal bare_qform_step s t)) (qnodes.every-Equal Q (bare s) (bare t) ((past.at_equal s t).1 (qnodes.node-Equal Q s t h)))));
-    at_not = λ a both.
-    ((λ h. qnodes.every-Not Q a (past.at_not a) (both.0 (qnodes.part-Not Q (bare_qform a) (subst E (qfold-Not bare_qform_step a) h)))),
-    (λ h. subst E (sym (qfold-Not bare_qform_step a)) (qnodes.every-Not Q (bare_qform a) (past.at_not (bare_qform a)) (both.1 (qnodes.part-Not Q a h)))));
+    at_atom = λ r args. (
+      (λ h. qnodes.every-Atom Q r args ((past.at_atom r args).0 (qnodes.node-Atom Q r (map bare args) (subst E (qfold-Atom bare_qform_step r args) h)))),
+      (λ h. subst E (sym (qfold-Atom bare_qform_step r args)) (qnodes.every-Atom Q r (map bare args) ((past.at_atom r args).1 (qnodes.node-Atom Q r args h)))),
+    );
+    at_equal = λ s t. (
+      (λ h. qnodes.every-Equal Q s t ((past.at_equal s t).0 (qnodes.node-Equal Q (bare s) (bare t) (subst E (qfold-Equal bare_qform_step s t) h)))),
+      (λ h. subst E (sym (qfold-Equal bare_qform_step s t)) (qnodes.every-Equal Q (bare s) (bare t) ((past.at_equal s t).1 (qnodes.node-Equal Q s t h)))),
+    );
+    at_not = λ a both. (
+      (λ h. qnodes.every-Not Q a (past.at_not a) (both.0 (qnodes.part-Not Q (bare_qform a) (subst E (qfold-Not bare_qform_step a) h)))),
+      (λ h. subst E (sym (qfold-Not bare_qform_step a)) (qnodes.every-Not Q (bare_qform a) (past.at_not (bare_qform a)) (both.1 (qnodes.part-Not Q a h)))),
+    );
     at_and = λ all held.
-    let both = both_all E E bare_qform all held in
-    ((λ h. let k = subst E (qfold-And bare_qform_step all) h in qnodes.every-And Q all ((past.at_and all).0 (qnodes.node-And Q (map bare_qform all) k)) (both.0 (qnodes.parts-And Q (map bare_qform all) k))),
-    (λ h. subst E (sym (qfold-And bare_qform_step all)) (qnodes.every-And Q (map bare_qform all) ((past.at_and all).1 (qnodes.node-And Q all h)) (both.1 (qnodes.parts-And Q all h)))));
+        let both = both_all E E bare_qform all held in (
+          (λ h. let k = subst E (qfold-And bare_qform_step all) h in qnodes.every-And Q all ((past.at_and all).0 (qnodes.node-And Q (map bare_qform all) k)) (both.0 (qnodes.parts-And Q (map bare_qform all) k))),
+          (λ h. subst E (sym (qfold-And bare_qform_step all)) (qnodes.every-And Q (map bare_qform all) ((past.at_and all).1 (qnodes.node-And Q all h)) (both.1 (qnodes.parts-And Q all h)))),
+        );
     at_or = λ all held.
-    let both = both_all E E bare_qform all held in
-    ((λ h. let k = subst E (qfold-Or bare_qform_step all) h in qnodes.every-Or Q all ((past.at_or all).0 (qnodes.node-Or Q (map bare_qform all) k)) (both.0 (qnodes.parts-Or Q (map bare_qform all) k))),
-    (λ h. subst E (sym (qfold-Or bare_qform_step all)) (qnodes.every-Or Q (map bare_qform all) ((past.at_or all).1 (qnodes.node-Or Q all h)) (both.1 (qnodes.parts-Or Q all h)))));
-    at_implies = λ a b first second.
-    ((λ h. let k = qnodes.parts-Implies Q (bare_qform a) (bare_qform b) (subst E (qfold-Implies bare_qform_step a b) h) in qnodes.every-Implies Q a b (past.at_implies a b) (first.0 k.0) (second.0 k.1)),
-    (λ h. let k = qnodes.parts-Implies Q a b h in subst E (sym (qfold-Implies bare_qform_step a b)) (qnodes.every-Implies Q (bare_qform a) (bare_qform b) (past.at_implies (bare_qform a) (bare_qform b)) (first.1 k.0) (second.1 k.1))));
-    at_all = λ b a both.
-    ((λ h. let k = subst E (qfold-All bare_qform_step b a) h in qnodes.every-All Q b a ((past.at_all b a).0 (qnodes.node-All Q b (bare_qform a) k)) (both.0 (qnodes.part-All Q b (bare_qform a) k))),
-    (λ h. subst E (sym (qfold-All bare_qform_step b a)) (qnodes.every-All Q b (bare_qform a) ((past.at_all b a).1 (qnodes.node-All Q b a h)) (both.1 (qnodes.part-All Q b a h)))));
-    at_exists = λ b a both.
-    ((λ h. let k = subst E (qfold-Exists bare_qform_step b a) h in qnodes.every-Exists Q b a ((past.at_exists b a).0 (qnodes.node-Exists Q b (bare_qform a) k)) (both.0 (qnodes.part-Exists Q b (bare_qform a) k))),
-    (λ h. subst E (sym (qfold-Exists bare_qform_step b a)) (qnodes.every-Exists Q b (bare_qform a) ((past.at_exists b a).1 (qnodes.node-Exists Q b a h)) (both.1 (qnodes.part-Exists Q b a h)))));
+        let both = both_all E E bare_qform all held in (
+          (λ h. let k = subst E (qfold-Or bare_qform_step all) h in qnodes.every-Or Q all ((past.at_or all).0 (qnodes.node-Or Q (map bare_qform all) k)) (both.0 (qnodes.parts-Or Q (map bare_qform all) k))),
+          (λ h. subst E (sym (qfold-Or bare_qform_step all)) (qnodes.every-Or Q (map bare_qform all) ((past.at_or all).1 (qnodes.node-Or Q all h)) (both.1 (qnodes.parts-Or Q all h)))),
+        );
+    at_implies = λ a b first second. (
+      (λ h. let k = qnodes.parts-Implies Q (bare_qform a) (bare_qform b) (subst E (qfold-Implies bare_qform_step a b) h) in qnodes.every-Implies Q a b (past.at_implies a b) (first.0 k.0) (second.0 k.1)),
+      (λ h. let k = qnodes.parts-Implies Q a b h in subst E (sym (qfold-Implies bare_qform_step a b)) (qnodes.every-Implies Q (bare_qform a) (bare_qform b) (past.at_implies (bare_qform a) (bare_qform b)) (first.1 k.0) (second.1 k.1))),
+    );
+    at_all = λ b a both. (
+      (λ h. let k = subst E (qfold-All bare_qform_step b a) h in qnodes.every-All Q b a ((past.at_all b a).0 (qnodes.node-All Q b (bare_qform a) k)) (both.0 (qnodes.part-All Q b (bare_qform a) k))),
+      (λ h. subst E (sym (qfold-All bare_qform_step b a)) (qnodes.every-All Q b (bare_qform a) ((past.at_all b a).1 (qnodes.node-All Q b a h)) (both.1 (qnodes.part-All Q b a h)))),
+    );
+    at_exists = λ b a both. (
+      (λ h. let k = subst E (qfold-Exists bare_qform_step b a) h in qnodes.every-Exists Q b a ((past.at_exists b a).0 (qnodes.node-Exists Q b (bare_qform a) k)) (both.0 (qnodes.part-Exists Q b (bare_qform a) k))),
+      (λ h. subst E (sym (qfold-Exists bare_qform_step b a)) (qnodes.every-Exists Q b (bare_qform a) ((past.at_exists b a).1 (qnodes.node-Exists Q b a h)) (both.1 (qnodes.part-Exists Q b a h)))),
+    );
   }
 
 -- a list has as many elements, each changed

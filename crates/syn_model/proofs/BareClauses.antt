@@ -1,7 +1,7 @@
 -- Clauses without the places of their terms: the arguments, the patterns among them, and where a body uses the symbol that it
 -- defines.
-use Rattle.std.proofs.Common.{◌≡◌, ◌↔◌, ℕ, zero, suc, ◌+◌, Bool, List, [], ◌∷◌, ◌++◌, All, Option, None, Some, if◌then◌else◌, map, nat_eq, ◌&&◌, slice_get, length, refl, sym, ◌∙◌, ap, subst, rules}
-use Rattle.std.specs.List.{flat_map, range_with_len}
+use Rattle.std.proofs.Common.{◌≡◌, ◌↔◌, ℕ, ◌+◌, List, [], ◌∷◌, ◌++◌, All, Option, None, Some, if◌then◌else◌, map, nat_eq, ◌&&◌, slice_get, length, refl, sym, ◌∙◌, ap, subst, rules}
+use Rattle.std.specs.List.{range_with_len}
 use Rattle.std.specs.Option.{option_and_then, option_map}
 use Rattle.std.proofs.lemmas.Option.{slice_get-map}
 use Rattle.syn_term.specs.declared.sorts.Head.{Head}
@@ -10,13 +10,13 @@ use Rattle.syn_term.specs.declared.sorts.Sort.{Sort}
 use Rattle.syn_term.specs.declared.sorts.SymId.{SymId}
 use Rattle.syn_term.specs.declared.sorts.Var.{Var}
 use Rattle.syn_term.specs.declared.term.Place.{Place}
-use Rattle.syn_term.specs.declared.term.Node.{Node, out-Node}
+use Rattle.syn_term.specs.declared.term.Node.{out-Node}
 use Rattle.syn_term.specs.declared.term.Node.TheOpen.{Node-F}
 use Rattle.syn_term.specs.declared.term.Node.TheVariants as node
 use Rattle.syn_term.specs.declared.term.Node.TheViews as view
 use Rattle.syn_term.specs.declared.term.Node.TheViews.{the_lemmas}
 use Rattle.syn_term.specs.Symbols.{SymbolTable}
-use Rattle.syn_term.specs.Terms.{TermTree, args_of, bare, bare_step, head_of, nowhere, sort_of}
+use Rattle.syn_term.specs.Terms.{TermTree, args_of, bare, bare_step, head_of, nowhere}
 use Rattle.syn_term.proofs.Trees.{bare-App, fold-Var}
 use Rattle.syn_form.specs.Plain.{IsSorted}
 use Rattle.syn_form.specs.Simplification.{Junction, conjunction, disjunction}
@@ -67,14 +67,16 @@ patterns_bare = patterns_same 0
 
 rest_bare : (args : List TermTree) (n : ℕ) → rest_at (map bare args) n ≡ rest_at args n
 rest_bare args n = ap (option_map (λ (v : Var). rest n v)) (ap (option_and_then last_of) (slice_get-map bare args n) ∙ go (slice_get args n))
-    where
-      rest : ℕ → Var → Rest
-      rest n v = record { place = n; var = v }
-      last_of : TermTree → Option Var
-      last_of t = last_var (term_vars t)
-      go : (o : Option TermTree) → option_and_then last_of (option_map bare o) ≡ option_and_then last_of o
-      go None = refl
-      go (Some t) = ap last_var (term_vars_bare t)
+  where
+    rest : ℕ → Var → Rest
+    rest n v = record { place = n; var = v }
+
+    last_of : TermTree → Option Var
+    last_of t = last_var (term_vars t)
+
+    go : (o : Option TermTree) → option_and_then last_of (option_map bare o) ≡ option_and_then last_of o
+    go None = refl
+    go (Some t) = ap last_var (term_vars_bare t)
 
 second_bare : (table : SymbolTable) (args : List TermTree) (ps qs : List Pattern) → second_turn table (map bare args) ps qs ≡ second_turn table args ps qs
 second_bare table args [] qs = refl
@@ -116,9 +118,10 @@ module _ (table : SymbolTable) (sorts : List Sort) (args : List TermTree) where
   pub arguments_bare : HasArguments table sorts (map bare args) ↔ HasArguments table sorts args
   arguments_bare =
       let sorted = both_each (IsSorted table) (IsSorted table) bare args (sorted_bare table) in
-      let flat = both_each IsFlat IsFlat bare args flat_bare in
-      ((λ h. record { sorted = sorted.0 h.sorted; of_sorts = sym (sorts_bare table args) ∙ h.of_sorts; flat = flat.0 h.flat; numbered = subst AreNumbered (vars_bare args) h.numbered }),
-      (λ h. record { sorted = sorted.1 h.sorted; of_sorts = sorts_bare table args ∙ h.of_sorts; flat = flat.1 h.flat; numbered = subst AreNumbered (sym (vars_bare args)) h.numbered }))
+      let flat = both_each IsFlat IsFlat bare args flat_bare in (
+        (λ h. record { sorted = sorted.0 h.sorted; of_sorts = sym (sorts_bare table args) ∙ h.of_sorts; flat = flat.0 h.flat; numbered = subst AreNumbered (vars_bare args) h.numbered }),
+        (λ h. record { sorted = sorted.1 h.sorted; of_sorts = sorts_bare table args ∙ h.of_sorts; flat = flat.1 h.flat; numbered = subst AreNumbered (sym (vars_bare args)) h.numbered }),
+      )
 
 module _ (own : SymId) where
   with_bare : (args : List TermTree) (n : ℕ) (t : TermTree) (o : Option TermTree) → slice_get args n ≡ o → option_map bare o ≡ Some t → (u : TermTree) × (slice_get args n ≡ Some u) × (bare u ≡ t)

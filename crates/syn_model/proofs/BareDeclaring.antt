@@ -12,7 +12,7 @@ use Rattle.syn_form.specs.declared.trees.Binder.{Binder}
 use Rattle.syn_form.specs.declared.trees.Mono.{Mono}
 use Rattle.syn_form.specs.Plain.{IsPlainForm, IsPlainOut, IsSorted, given_sort}
 use Rattle.syn_form.specs.PlainQuantified.{IsPlainQForm, binders_of}
-use Rattle.syn_form.specs.Quantified.{bare_qform, free_vars}
+use Rattle.syn_form.specs.Quantified.{bare_qform}
 use Rattle.syn_form.specs.Trees.{FormTree, OutTree, QFormTree, bare_form, bare_out, form_vars, out_vars, term_vars}
 use Rattle.syn_form.proofs.BareFacts.{binders_bare, both_along, both_kept, free_vars_bare, plain_bare, plain_out_bare, plain_qform_bare, sorted_bare}
 use Rattle.syn_form.proofs.BareVars.{form_vars_bare, given_bare, out_vars_bare, term_vars_bare, vars_bare}
@@ -20,9 +20,9 @@ use Rattle.syn_form.proofs.Sorting.{sort_bare}
 use Rattle.syn_model.specs.declared.decl.Decl.{Decl}
 use Rattle.syn_model.specs.declared.decl.Decl.TheVariants as decl
 use Rattle.syn_model.specs.BareTrees.{bare_decl}
-use Rattle.syn_model.specs.Clauses.{HasArguments, UsesForm, UsesOut, turn_of}
+use Rattle.syn_model.specs.Clauses.{HasArguments, turn_of}
 use Rattle.syn_model.specs.Declaring.{AreAmong, Asks, AsksHead, AsksOrder, ComesInTime, IsMono, IsNumberedIn, IsOtherwiseFree, MayAxiom, MayDeclare, MayFunClause, MayMono, MayRelClause, is_clause, symbol_of_name}
-use Rattle.syn_model.specs.Headings.{Heading, are_all, has_clauses, heading_after, heading_of, is_complete, is_whole}
+use Rattle.syn_model.specs.Headings.{Heading, has_clauses, heading_after, heading_of, is_complete, is_whole}
 use Rattle.syn_model.specs.Tables.{IsDeclared, mono_in, monos_of, other_name, other_names, table_after, table_of}
 use Rattle.syn_model.specs.Theories.{MayBring}
 use Rattle.syn_model.proofs.BareClauses.{all_bare, arguments_bare, turn_bare, uses_form_bare, uses_out_bare}

@@ -40,8 +40,8 @@ pub ensures_bare : (parts : List SpecPart) → HasEnsures (map bare_part parts) 
 ensures_bare parts = (
   (λ h. has_at parts h.0 h.1 (slice_get parts h.0) refl (sym (slice_get-map bare_part parts h.0) ∙ (slice_get-get_or (map bare_part parts) h.0 h.1 h.2 ∙ ap Some h.3)) h.4),
   (λ h.
-  let at : slice_get (map bare_part parts) h.0 ≡ Some (bare_part h.1) = slice_get-map bare_part parts h.0 ∙ ap (option_map bare_part) (slice_get-get_or parts h.0 h.1 h.2 ∙ ap Some h.3) in
-  (h.0, bare_part h.1, slice_get_within (map bare_part parts) h.0 (bare_part h.1) at, get_or_from_slice_get (map bare_part parts) h.0 (bare_part h.1) (bare_part h.1) at, place_bare h.1 ∙ h.4)),
+      let at : slice_get (map bare_part parts) h.0 ≡ Some (bare_part h.1) = slice_get-map bare_part parts h.0 ∙ ap (option_map bare_part) (slice_get-get_or parts h.0 h.1 h.2 ∙ ap Some h.3) in
+      (h.0, bare_part h.1, slice_get_within (map bare_part parts) h.0 (bare_part h.1) at, get_or_from_slice_get (map bare_part parts) h.0 (bare_part h.1) (bare_part h.1) at, place_bare h.1 ∙ h.4)),
 )
 
 place_below : (p q : SpecPart) → (line_place (bare_part q) < line_place (bare_part p)) ↔ (line_place q < line_place p)
@@ -53,9 +53,10 @@ place_below p q = (
 next_bare : (parts : List SpecPart) (p : SpecPart) → ComesNext (map bare_part parts) (bare_part p) ↔ ComesNext parts p
 next_bare parts p =
     let later = both_each (λ (q : SpecPart). line_place q < line_place (bare_part p)) (λ (q : SpecPart). line_place q < line_place p) bare_part parts (place_below p) in
-    let there = ensures_bare parts in
-    ((λ h. record { later = later.0 h.later; behind = λ n. there.0 (h.behind (subst (λ (k : ℕ). 2 < k) (sym (place_bare p)) n)) }),
-    (λ h. record { later = later.1 h.later; behind = λ n. there.1 (h.behind (subst (λ (k : ℕ). 2 < k) (place_bare p) n)) }))
+    let there = ensures_bare parts in (
+      (λ h. record { later = later.0 h.later; behind = λ n. there.0 (h.behind (subst (λ (k : ℕ). 2 < k) (sym (place_bare p)) n)) }),
+      (λ h. record { later = later.1 h.later; behind = λ n. there.1 (h.behind (subst (λ (k : ℕ). 2 < k) (place_bare p) n)) }),
+    )
 
 -- where a formula has a symbol that may not be used
 unused_bare : (own : SymId) (f : QFormTree) → UsesQForm own None (bare_qform f) ↔ UsesQForm own None f

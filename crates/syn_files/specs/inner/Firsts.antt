@@ -1,9 +1,14 @@
 -- For private contracts: what stands at the front of words, and the words behind it.
-use Rattle.std.specs.Prelude.{◌≡◌, ℕ, Bool, true, false, ◌&&◌, List, [], ◌∷◌, ◌++◌, Option, None, Some, codes, if◌then◌else◌}
+use Rattle.std.specs.Prelude.{◌≡◌, ℕ, ◌+◌, Bool, true, false, ◌&&◌, List, [], ◌∷◌, ◌++◌, Option, None, Some, codes, decimal, if◌then◌else◌, nat_lt, ◌^◌}
 use Rattle.std.specs.Option.{option_and_then, option_map}
 use Rattle.std.specs.Str.{bytes_eq}
+use Rattle.std.specs.Str.Parse.{digits_value}
+use Rattle.syn_form.specs.Elaboration.{symbol_named}
+use Rattle.syn_form.specs.Scopes.{Named}
+use Rattle.syn_model.specs.Heads.{Param}
 use Rattle.syn_term.specs.declared.sorts.Sort.{Sort}
 use Rattle.syn_term.specs.declared.sorts.SymId.{SymId}
+use Rattle.syn_term.specs.declared.sorts.Var.{Var}
 use Rattle.syn_term.specs.declared.tokens.TokenKind.{TokenKind}
 use Rattle.syn_term.specs.declared.tokens.TokenKind.TheVariants as kind
 use Rattle.syn_term.specs.DeclaredSorts.{sort_named}
@@ -72,3 +77,59 @@ sorts_on table (Some s) (w ∷ ws) =
 -- sorts in brackets
 abbrev pub sorts_first : SymbolTable → List Word → Option (Got (List Sort))
 sorts_first table ws = sign_first (codes "(") ws >>= sorts_on table None
+
+-- a number of at most seven digits, with no zero before others
+abbrev pub number_in : List ℕ → Option ℕ
+number_in bytes = if bytes_eq bytes (decimal (digits_value 10 bytes)) && nat_lt (digits_value 10 bytes) (10 ^ 7) then Some (digits_value 10 bytes) else None
+
+abbrev pub number_of_kind : TokenKind → List ℕ → Option ℕ
+number_of_kind kind.Number bytes = number_in bytes
+number_of_kind _ bytes = None
+
+abbrev pub number_first : List Word → Option (Got ℕ)
+number_first [] = None
+number_first (w ∷ ws) = option_map (λ n. got n ws) (number_of_kind w.kind w.bytes)
+
+abbrev pub symbol_first : SymbolTable → List Word → Option (Got SymId)
+symbol_first table ws = name_first ws >>= λ x. option_map (λ f. got f x.left) (symbol_named table x.value)
+
+abbrev pub direction_of : List ℕ → Option Bool
+direction_of x = if bytes_eq x (codes "up") then Some true else (if bytes_eq x (codes "down") then Some false else None)
+
+abbrev pub direction_first : List Word → Option (Got Bool)
+direction_first ws = name_first ws >>= λ x. option_map (λ b. got b x.left) (direction_of x.value)
+
+-- a name with its sort
+abbrev pub param : List ℕ → Sort → Param
+param x s = record { name = x; sort = s }
+
+-- `x: S`
+abbrev pub param_first : SymbolTable → List Word → Option (Got Param)
+param_first table ws =
+    name_first ws >>= λ x. sign_first (codes ":") x.left >>= λ c. option_map (λ s. got (param x.value s.value) s.left) (sort_first table c)
+
+-- the same of three words
+abbrev pub param_of : SymbolTable → Word → Word → Word → Option Param
+param_of table x c w = name_of x >>= λ n. if is_sign (codes ":") c then option_map (param n) (name_of w >>= sort_named table) else None
+
+abbrev pub named : List ℕ → Var → Named
+named x v = record { text = x; var = v }
+
+-- a variable of this number by its name
+abbrev pub numbered_name : ℕ → Param → Named
+numbered_name n p = named p.name (record { number = n; sort = p.sort })
+
+abbrev pub with_named : Named → Got (List Named) → Got (List Named)
+with_named v g = got (v ∷ g.value) g.left
+
+-- names with their sorts, numbered from here on, with commas between, up to a closing bracket; a name that was read last waits for
+-- what stands behind it
+abbrev pub params_on : SymbolTable → ℕ → Option Named → List Word → Option (Got (List Named))
+params_on table n None (x ∷ c ∷ w ∷ ws) = param_of table x c w >>= λ p. params_on table (n + 1) (Some (numbered_name n p)) ws
+params_on table n (Some v) (w ∷ ws) =
+    if is_sign (codes ")") w then Some (got (v ∷ []) ws) else (if is_sign (codes ",") w then option_map (with_named v) (params_on table n None ws) else None)
+params_on table n last ws = None
+
+-- names with their sorts in brackets, numbered from 1
+abbrev pub params_first : SymbolTable → List Word → Option (Got (List Named))
+params_first table ws = sign_first (codes "(") ws >>= params_on table 1 None

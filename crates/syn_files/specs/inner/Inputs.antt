@@ -1,19 +1,12 @@
--- For private contracts: names with their sorts at the front of words.
+-- For private contracts: names with their sorts in brackets at the front of words, as the inputs of a program.
 use Rattle.std.specs.Prelude.{ℕ, List, [], ◌∷◌, Option, None, Some, codes, if◌then◌else◌}
 use Rattle.std.specs.Option.{option_map}
 use Rattle.syn_term.specs.declared.sorts.Sort.{Sort}
 use Rattle.syn_term.specs.DeclaredSorts.{sort_named}
 use Rattle.syn_term.specs.Symbols.{SymbolTable}
 use Rattle.syn_term.specs.Tokens.{Word}
-use Rattle.syn_model.specs.declared.heads.Param.{Param}
-use Rattle.syn_files.specs.inner.Firsts.{◌>>=◌, Got, got, is_sign, name_first, name_of, sign_first, sort_first}
-
-abbrev pub param : List ℕ → Sort → Param
-param x s = record { name = x; sort = s }
-
--- x: S
-abbrev pub param_first : SymbolTable → List Word → Option (Got Param)
-param_first table ws = name_first ws >>= λ n. sign_first (codes ":") n.left >>= λ c. option_map (λ s. got (param n.value s.value) s.left) (sort_first table c)
+use Rattle.syn_model.specs.Heads.{Param}
+use Rattle.syn_files.specs.inner.Firsts.{◌>>=◌, Got, got, is_sign, name_of, param, sign_first}
 
 -- what is read of a name with its sort, and what comes next
 pub data Awaits : Type 0 where

@@ -1,12 +1,14 @@
 -- For private contracts: what the words behind the first of a line declare, read from the left, where no expression stands in it.
-use Rattle.std.specs.Prelude.{ℕ, List, [], ◌∷◌, Option, None, Some, codes, if◌then◌else◌}
+use Rattle.std.specs.Prelude.{ℕ, Bool, List, [], ◌∷◌, Option, None, Some, codes, if◌then◌else◌}
 use Rattle.std.specs.Option.{option_map}
 use Rattle.std.specs.Str.{bytes_eq}
+use Rattle.syn_term.specs.declared.sorts.SymId.{SymId}
+use Rattle.syn_form.specs.declared.trees.Mono.{Mono}
 use Rattle.syn_term.specs.Symbols.{SymbolTable}
 use Rattle.syn_term.specs.Tokens.{Word}
 use Rattle.syn_model.specs.declared.decl.Decl.{Decl}
 use Rattle.syn_model.specs.declared.decl.Decl.TheVariants as decl
-use Rattle.syn_files.specs.inner.Firsts.{◌>>=◌, Got, got, ended, name_first, sign_first, sort_first, sorts_first}
+use Rattle.syn_files.specs.inner.Firsts.{◌>>=◌, Got, got, direction_first, ended, name_first, number_first, sign_first, sort_first, sorts_first, symbol_first}
 
 -- NAME, and nothing behind it
 abbrev pub title_line : List Word → Option (List ℕ)
@@ -43,3 +45,21 @@ rel_line table ws = name_first ws >>= λ n. sorts_first table n.left >>= λ a. e
 -- the name of an axiom or a monotonicity row with the words behind its colon
 abbrev pub entry_first : List Word → Option (Got (List ℕ))
 entry_first ws = name_first ws >>= λ n. option_map (λ b. got n.value b) (sign_first (codes ":") n.left)
+
+-- nothing, or a relation and nothing behind it
+abbrev pub given_first : SymbolTable → List Word → Option (Option SymId)
+given_first table [] = Some None
+given_first table (w ∷ ws) = symbol_first table (w ∷ ws) >>= λ f. ended f.left (Some f.value)
+
+abbrev pub mono_of : SymId → Bool → SymId → ℕ → Option SymId → Mono
+mono_of r up f k given = record { rel = r; up = up; sym = f; place = k; gives = given }
+
+-- REL up SYM K, and its kin
+abbrev pub row_line : SymbolTable → List Word → Option Mono
+row_line table ws =
+    symbol_first table ws >>= λ r. direction_first r.left >>= λ u. symbol_first table u.left >>= λ f. number_first f.left >>= λ k.
+    option_map (mono_of r.value u.value f.value k.value) (given_first table k.left)
+
+-- NAME: REL up SYM K, and its kin
+abbrev pub mono_line : SymbolTable → List Word → Option Decl
+mono_line table ws = entry_first ws >>= λ n. option_map (decl.Monotone n.value) (row_line table n.left)

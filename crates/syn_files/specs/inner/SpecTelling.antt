@@ -5,7 +5,7 @@ use Rattle.syn_form.specs.Grammar.{name_word}
 use Rattle.syn_model.specs.declared.decl.Decl.{Decl}
 use Rattle.syn_model.specs.declared.spec_part.SpecPart.{SpecPart}
 use Rattle.syn_model.specs.BareParts.{bare_part, bare_spec_tree}
-use Rattle.syn_model.specs.declared.heads.Head.{Head as HeadTree}
+use Rattle.syn_model.specs.Heads.{HeadTree}
 use Rattle.syn_model.specs.Specifications.{IsSpec, MayBegin, SpecTree, bare_spec}
 use Rattle.syn_files.specs.SpecLines.{SpecLine, SpecState, SpecWordsLead, WritesHead, WritesPart, known, nothing, titled}
 

@@ -7,11 +7,11 @@ use Rattle.syn_term.specs.Tokens.{Word}
 use Rattle.syn_model.specs.declared.decl.Decl.{Decl}
 use Rattle.syn_model.specs.declared.spec_part.SpecPart.{SpecPart}
 use Rattle.syn_model.specs.declared.spec_part.SpecPart.TheVariants as part
-use Rattle.syn_model.specs.declared.heads.Head.{Head as HeadTree}
-use Rattle.syn_model.specs.declared.heads.Param.{Param}
+use Rattle.syn_model.specs.Heads.{HeadTree}
+use Rattle.syn_model.specs.Heads.{Param}
 use Rattle.syn_model.specs.Specifications.{MayBegin, SpecTree, bare_spec}
-use Rattle.syn_files.specs.inner.Firsts.{◌>>=◌, Got, ended, is_sign, name_first, name_of, sign_first}
-use Rattle.syn_files.specs.inner.Inputs.{param_first, inputs_first}
+use Rattle.syn_files.specs.inner.Firsts.{◌>>=◌, Got, ended, is_sign, name_first, name_of, param_first, sign_first}
+use Rattle.syn_files.specs.inner.Inputs.{inputs_first}
 use Rattle.syn_files.specs.inner.SimpleLines.{title_line}
 
 -- the head of a program, and the name of its output

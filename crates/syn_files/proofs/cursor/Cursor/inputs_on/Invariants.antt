@@ -6,8 +6,8 @@ use Rattle.syn_files.specs.inner.Inputs.{a_name, inputs_on}
 use Rattle.syn_files.proofs.cursor.Cursor.inputs_on.Given as goal
 
 -- what is still read goes behind what was read
-abbrev pub invariant-loop-name : goal.invariant-loop-name
-invariant-loop-name l = option_map (λ g. got (map given_param l.params ++ g.value) g.left) (inputs_on l.syms a_name l.self.left) ≡ inputs_on l.fn.syms a_name l.fn.self.left
+abbrev pub invariant-loop-given : goal.invariant-loop-given
+invariant-loop-given l = option_map (λ g. got (map given_param l.inputs ++ g.value) g.left) (inputs_on l.syms a_name l.self.left) ≡ inputs_on l.fn.syms a_name l.fn.self.left
 
-abbrev pub decreases-loop-name : goal.decreases-loop-name
-decreases-loop-name l = length l.self.left
+abbrev pub decreases-loop-given : goal.decreases-loop-given
+decreases-loop-given l = length l.self.left
