@@ -1,4 +1,4 @@
-use Rattle.std.proofs.Common.{◌≡◌, ◌+◌, true≢false, length, map, sym, ◌∙◌, ap, arith}
+use Rattle.std.proofs.Common.{◌≡◌, ◌+◌, true≢false, length, sym, ◌∙◌, ap, arith}
 use Rattle.std.proofs.lemmas.List.{length-map}
 use Rattle.syn_files.proofs.SpecLoop.{end_complete, end_early, end_unbegun}
 use Rattle.syn_files.proofs.spec_text.finished.Goals as goal

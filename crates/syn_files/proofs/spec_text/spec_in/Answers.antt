@@ -1,4 +1,4 @@
-use Rattle.std.proofs.Common.{Bor, ◌≡◌, ◌≤◌, ◌<◌, List, ℕ, length, map, take, sym, ◌∙◌, ap, subst, arith}
+use Rattle.std.proofs.Common.{Bor, ◌≡◌, ◌<◌, List, ℕ, length, map, subst, arith}
 use Rattle.std.proofs.lemmas.List.{length-map, take_all}
 use Rattle.syn_lex.specs.Stepping.{Lead}
 use Rattle.syn_term.specs.Bank.{Extends-trans}
