@@ -1,11 +1,7 @@
-//! Tests of the crates at the bottom, each a table of cases: symbols and terms, tokens and lines,
-//! formulas and outputs, files and texts. A proof says what an answer means; a table says that the
-//! answer comes. The formulas that are written as codes are no tests, since definitions speak of them.
+//! Tests of the crates at the bottom, each a table of cases: symbols and terms, tokens and lines, files
+//! and texts. A proof says what an answer means; a table says that the answer comes.
 #![tactic(auto)]
 
-mod codes;
-#[cfg(test)]
-mod formulas;
 #[cfg(test)]
 mod lines;
 #[cfg(test)]
@@ -15,9 +11,6 @@ mod outside;
 #[cfg(test)]
 mod positions;
 #[cfg(test)]
-mod replacing;
-mod simplification;
-#[cfg(test)]
 mod sorts;
 #[cfg(test)]
 mod symbols;
@@ -25,5 +18,3 @@ mod symbols;
 mod terms;
 #[cfg(test)]
 mod tokens;
-#[cfg(test)]
-mod words;

@@ -2,7 +2,7 @@
 ghost use Rattle.std.specs.Prelude.{All, IfOk};
 ghost use Rattle.syn_term.specs.Bank.{Belongs};
 
-use crate::words::cut;
+use syn_cases::cut;
 use sqlite_items::Items;
 use std::alloc::Global;
 use std::test::Fail;
@@ -123,7 +123,7 @@ fn made_for(alloc: Global, syms: &Symbols, row: &str) -> Result<Option<u64>, Fai
     let (path, sort) = cut(row, ": ");
     let v = Var {
         number: 7,
-        sort: crate::words::sort_of(sort),
+        sort: syn_cases::sort_of(sort),
     };
     let pos = position(alloc, path)?;
     let mut bank = Bank::new(alloc);

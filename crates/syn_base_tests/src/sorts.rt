@@ -1,5 +1,5 @@
 // Declared sorts: lists and tuples that a table takes, and what it shows of them.
-use crate::words::{cut, sort_of, sorts_of};
+use syn_cases::{cut, sort_of, sorts_of};
 use std::alloc::Global;
 use std::test::Fail;
 use syn_term::{Shape, Sort, Symbols, decimal_number};

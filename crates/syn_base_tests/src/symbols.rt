@@ -1,5 +1,5 @@
 // The table of symbols: which symbols it takes, under which numbers it finds them, and a copy of it.
-use crate::words::{cut, kind_of, sort_of, sorts_of};
+use syn_cases::{cut, kind_of, sort_of, sorts_of};
 use std::alloc::Global;
 use std::test::Fail;
 use syn_term::{Kind, Sort, Sym, SymId, Symbols, Text, decimal_number};

@@ -26,6 +26,7 @@ pub mod Stands
 pub mod Readers
 pub mod TextReads
 pub mod TreeReadings
+pub mod WordPuts
 pub mod Puts
 pub mod TermPuts
 pub mod FormPuts
@@ -39,3 +40,4 @@ pub mod Spending
 pub mod Told
 pub mod ToldForms
 pub mod ToldBack
+pub mod ReservedFronts

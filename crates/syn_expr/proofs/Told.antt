@@ -37,7 +37,8 @@ use Rattle.syn_form.proofs.Lists.{Contains-cons_cases, Contains-flat_map_from, C
 use Rattle.syn_form.proofs.TermNodes.{by_term_cases, every-App, every-Var, node-App, node-Var, parts-App}
 use Rattle.syn_form.proofs.Variables.{application_vars}
 use Rattle.syn_expr.specs.Readable.{CanReadNode, CanReadSort, CanReadSymbol, CanReadTerm, CanReadVar, CanReadVarIn, IsNamed, IsUnshadowed, symbol_head}
-use Rattle.syn_expr.specs.Told.{AreTold, AreToldIn, CanWrite, CanWriteAll, TellsApart}
+use Rattle.syn_form.specs.Writing.{CanWrite, CanWriteAll}
+use Rattle.syn_expr.specs.Told.{AreTold, AreToldIn, TellsApart}
 use Rattle.syn_expr.proofs.BackTerms.{name_not_reserved}
 use Rattle.syn_expr.proofs.TermCounts.{value_there}
 

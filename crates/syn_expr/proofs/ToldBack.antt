@@ -13,7 +13,8 @@ use Rattle.syn_form.specs.Scopes.{Named, TextScope}
 use Rattle.syn_form.specs.Texts.{IsFormOf, IsOutOf, IsQFormOf, IsTermOf, IsTextOf, Limit}
 use Rattle.syn_form.specs.Trees.{FormTree, OutTree, QFormTree, bare_form, bare_out, form_vars, out_vars, term_vars}
 use Rattle.syn_form.proofs.Lists.{none_in_nil}
-use Rattle.syn_expr.specs.Told.{AreTold, AreToldIn, CanWriteAll, IsClosedQForm, IsToldForm, IsToldOut, IsToldTerm}
+use Rattle.syn_form.specs.Writing.{CanWriteAll}
+use Rattle.syn_expr.specs.Told.{AreTold, AreToldIn, IsClosedQForm, IsToldForm, IsToldOut, IsToldTerm}
 use Rattle.syn_expr.proofs.ReadsBack.{form_reads_back, out_reads_back, qform_reads_back, term_reads_back}
 use Rattle.syn_expr.proofs.Told.{IsOver, term_told, var_told}
 use Rattle.syn_expr.proofs.ToldForms.{Sound, form_told, out_told, qform_told}

@@ -51,7 +51,8 @@ use Rattle.syn_form.proofs.QForms.{by_qform_cases, qfold-All, qfold-And, qfold-A
 use Rattle.syn_form.proofs.Sorting.{and_true, both_true}
 use Rattle.syn_form.proofs.Variables.{chain_vars}
 use Rattle.syn_expr.specs.Readable.{CanReadAtom, CanReadEquality, CanReadForm, CanReadFormNode, CanReadLeaf, CanReadOut, CanReadOutNode, CanReadTerm, CanReadVarIn, Leaf, Placed, atom, binder, equality, leaves, leaves_step, placed}
-use Rattle.syn_expr.specs.Told.{CanWrite, TellsApart}
+use Rattle.syn_form.specs.Writing.{CanWrite}
+use Rattle.syn_expr.specs.Told.{TellsApart}
 use Rattle.syn_expr.proofs.BackTerms.{name_not_reserved}
 use Rattle.syn_expr.proofs.Told.{CanReadVars, IsOver, sort_told, symbol_told, term_told, terms_told, var_in_file, writes}
 

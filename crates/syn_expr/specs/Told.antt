@@ -1,17 +1,15 @@
 -- For public contracts: plain trees whose printed text reads back over any table, since their variables are told apart.
-use Rattle.std.specs.Prelude.{◌≡◌, ◌≤◌, ◌<◌, ◌^◌, Bool, true, false, List, [], All, Contains, length, map}
-use Rattle.syn_term.specs.declared.sorts.Kind.{Kind}
-use Rattle.syn_term.specs.declared.sorts.Kind.TheVariants as kind
-use Rattle.syn_term.specs.declared.sorts.Sym.{Sym}
+use Rattle.std.specs.Prelude.{◌≡◌, ◌≤◌, ◌<◌, ◌^◌, Bool, true, false, List, [], All, Contains, map}
 use Rattle.syn_term.specs.declared.sorts.Var.{Var}
 use Rattle.syn_term.specs.Names.{IsName}
-use Rattle.syn_term.specs.Symbols.{SymbolTable, IsTaken, succ_symbol, zero_symbol}
+use Rattle.syn_term.specs.Symbols.{SymbolTable, IsTaken}
 use Rattle.syn_term.specs.Terms.{TermTree, nodes, depth_of}
 use Rattle.syn_form.specs.Plain.{HasOneSortEach, IsPlainForm, IsPlainOut, IsSorted}
 use Rattle.syn_form.specs.PlainQuantified.{IsPlainQForm}
 use Rattle.syn_form.specs.Quantified.{free_vars, qform_depth, qform_nodes}
 use Rattle.syn_form.specs.Scopes.{Named, TextScope}
 use Rattle.syn_form.specs.Texts.{Limit}
+use Rattle.syn_form.specs.Writing.{CanWriteAll}
 use Rattle.syn_form.specs.Trees.{FormTree, OutTree, QFormTree, form_depth, form_nodes, form_vars, out_depth, out_nodes, out_vars, term_vars}
 
 -- each name is one that nothing in the table has, and no two variables have one name or one number
@@ -19,20 +17,6 @@ pub record TellsApart (table : SymbolTable) (names : List Named) : Type 0 where
   pub free : All (λ n. IsName n.text × (IsTaken table n.text → ⊥)) names
   pub texts : (m n : Named) → Contains names m → Contains names n → m.text ≡ n.text → m.var ≡ n.var
   pub numbers : (m n : Named) → Contains names m → Contains names n → m.var.number ≡ n.var.number → m.text ≡ n.text
-
--- in rows or in a file, a symbol of this kind has a text of its own: only `0` is zero and only `s` is the successor, a relation
--- and an order have arguments, and a Skolem symbol is written in rows alone
-abbrev pub CanWrite : Bool → Kind → Sym → Type 0
-CanWrite rows kind.Zero sym = sym ≡ zero_symbol
-CanWrite rows kind.Succ sym = sym ≡ succ_symbol
-CanWrite rows kind.Rel sym = 1 ≤ length sym.args
-CanWrite rows kind.Order sym = 1 ≤ length sym.args
-CanWrite rows kind.Skolem sym = rows ≡ true
-CanWrite rows _ sym = Unit {0}
-
--- each symbol of the table has a text of its own
-abbrev pub CanWriteAll : TextScope → Type 0
-CanWriteAll scope = All (λ sym. CanWrite scope.rows sym.kind sym) scope.table.syms
 
 -- in a file: each variable is one of the scope's, and their names tell them apart
 pub record AreToldInFile (scope : TextScope) (vars : List Var) : Type 0 where

@@ -4,3 +4,4 @@ pub mod Elaborating
 pub mod Places
 pub mod Proper
 pub mod Spending
+pub mod Reserved

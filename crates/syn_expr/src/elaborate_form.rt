@@ -47,7 +47,7 @@ pub(crate) fn elaborate_form(
             Ok(steady(read, next))
         }
         FormSyntax::Equal(s, t) => {
-            let read = elaborate_equality(alloc, bank, place, s, t)?;
+            let read = elaborate_equality(alloc, bank, place, s.get(), t.get())?;
             Ok(steady(read, next))
         }
         FormSyntax::Not(a) => {

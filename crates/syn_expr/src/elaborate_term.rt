@@ -15,8 +15,8 @@ use crate::lookups::{head_symbol, head_var, symbol_named, written_sort};
 use crate::names::Inside;
 use sqlite_items::Items;
 use std::alloc::Global;
-use syn_form::{HeadName, TermSyntax};
-use syn_term::{Bank, NoMemory, SymId, Symbols, Term, Text, Var};
+use syn_form::{HeadName, NameText, TermSyntax};
+use syn_term::{Bank, NoMemory, SymId, Symbols, Term, Var};
 
 /// The symbol with the arguments; None where there is no symbol, or it doesn't take them.
 #[tactic(auto, using(crate::proofs::Growth::growth, crate::proofs::Spending::spending))]
@@ -107,7 +107,7 @@ fn row_term(
     bank: &mut Bank,
     place: &Inside,
     number: u32,
-    sort: &Option<Text>,
+    sort: &Option<NameText>,
 ) -> Result<Option<Term>, NoMemory>
     ensures tree { IfOk result (λ o. option_map bare o ≡ elaboration.row_tree (spoken_at place.now) number sort.now) }
     ensures made { Spends bank.old bank.new 1 }

@@ -8,7 +8,8 @@ use syn_term::NoMemory;
 pub enum ExprError {
     /// No tree stands for the text within the limits.
     Refused,
-    /// Memory was refused, or numbers of binders ran out.
+    /// Memory was refused. Numbers of binders don't run out: a text within the limits has fewer than
+    /// 4,096, and past the limits nothing is made.
     NoMemory,
 }
 

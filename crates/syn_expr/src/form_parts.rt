@@ -19,8 +19,8 @@ use crate::lookups::symbol_named;
 use crate::names::Inside;
 use sqlite_items::Items;
 use std::alloc::Global;
-use syn_form::{Binder, QForm, Quantifier, TermSyntax, are_of_one_sort, is_atom};
-use syn_term::{Bank, NoMemory, Shared, SymId, Symbols, Term, Text};
+use syn_form::{Binder, NameText, QForm, Quantifier, TermSyntax, are_of_one_sort, is_atom};
+use syn_term::{Bank, NoMemory, Shared, SymId, Symbols, Term};
 
 /// The terms that the syntax trees stand for; None where one stands for none.
 #[tactic(auto, using(crate::proofs::Growth::growth, crate::proofs::Spending::spending))]
@@ -71,7 +71,7 @@ pub(crate) fn elaborate_atom(
     alloc: Global,
     bank: &mut Bank,
     place: &Inside,
-    name: &Text,
+    name: &NameText,
     args: &[TermSyntax],
 ) -> Result<Option<QForm>, NoMemory>
     ensures tree { IfOk result (λ o. option_map bare_qform o ≡ elaboration.atom_tree (spoken_at place.now) name.now (map (elaboration.elaborate_term (spoken_at place.now)) args.now)) }

@@ -19,11 +19,13 @@ mod print_qforms;
 mod print_terms;
 mod read;
 mod read_words;
+mod reserved;
 mod scope;
 mod text;
 mod unquantified;
 
 pub use error::ExprError;
+pub use names::{sort_name, symbol_name};
 pub use print_forms::print_form;
 pub use print_outs::print_out;
 pub use print_qforms::print_qform;
@@ -33,3 +35,4 @@ pub use read_words::{
     body_of_words, form_of_words, out_of_words, qform_of_words, term_of_syntax, term_of_words,
 };
 pub use scope::Scope;
+pub use text::{put, put_number, separator};

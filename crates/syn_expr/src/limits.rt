@@ -99,7 +99,10 @@ pub(crate) fn form_cost(f: &FormSyntax, cap: u32) -> u64
     match f {
         FormSyntax::True | FormSyntax::False => 1,
         FormSyntax::Atom(_, args) => atom_cost(args.as_slice(), cap),
-        FormSyntax::Equal(s, t) => capped(1 + (term_cost(s, cap) + term_cost(t, cap)), cap),
+        FormSyntax::Equal(s, t) => capped(
+            1 + (term_cost(s.get(), cap) + term_cost(t.get(), cap)),
+            cap,
+        ),
         FormSyntax::Not(a) => capped(1 + form_cost(a.get(), cap), cap),
         FormSyntax::And(all) | FormSyntax::Or(all) => {
             let mut total: u64 = 1;
@@ -134,7 +137,10 @@ pub(crate) fn form_levels(f: &FormSyntax, cap: u32) -> u64
         FormSyntax::True | FormSyntax::False => 1,
         FormSyntax::Atom(_, args) => atom_levels(args.as_slice(), cap),
         FormSyntax::Equal(s, t) => {
-            capped(1 + greater(term_levels(s, cap), term_levels(t, cap)), cap)
+            capped(
+                1 + greater(term_levels(s.get(), cap), term_levels(t.get(), cap)),
+                cap,
+            )
         }
         FormSyntax::Not(a) => capped(1 + form_levels(a.get(), cap), cap),
         FormSyntax::And(all) | FormSyntax::Or(all) => {

@@ -12,8 +12,9 @@ ghost use Rattle.syn_expr.specs.Scopes.{listed};
 ghost use Rattle.syn_expr.specs.inner.Places.{names_at, spoken_at};
 
 use crate::names::{Inside, NamedVars};
-use syn_form::{BinderSyntax, HeadName};
-use syn_term::{Sort, SymId, Symbols, Text, Var, is_reserved};
+use crate::reserved::is_word;
+use syn_form::{BinderSyntax, HeadName, NameText};
+use syn_term::{Sort, SymId, Symbols, Var};
 
 /// The variable with the name, the innermost where several have it.
 pub(crate) fn var_named(names: &NamedVars, name: &str) -> Option<Var>
@@ -41,13 +42,6 @@ fn given_var(names: &[(String, Var)], name: &str) -> Option<Var>
         }
     }
     None
-}
-
-/// Whether the word is reserved.
-fn is_word(name: &str) -> bool
-    ensures { result ≡ words.is_reserved name.now }
-{
-    is_reserved(name.as_bytes())
 }
 
 /// Whether the two texts are one.
@@ -113,7 +107,7 @@ pub(crate) fn head_var(place: &Inside, head: &HeadName) -> Option<Var>
 }
 
 /// The sort that is written behind a row variable, `nat` where none is.
-pub(crate) fn written_sort(syms: &Symbols, sort: &Option<Text>) -> Option<Sort>
+pub(crate) fn written_sort(syms: &Symbols, sort: &Option<NameText>) -> Option<Sort>
     ensures { result ≡ elaboration.written_sort syms.now sort.now }
 {
     match sort {

@@ -97,7 +97,7 @@ pub(crate) fn symbol_kind(syms: &Symbols, f: SymId) -> Option<Kind>
 }
 
 /// The symbol's name, the empty text where it is not in the table.
-pub(crate) fn symbol_name(syms: &Symbols, f: SymId) -> &str
+pub fn symbol_name(syms: &Symbols, f: SymId) -> &str
     ensures { result.now ≡ name_of (symbol_at syms.now f) }
 {
     match syms.get(f) {
@@ -107,7 +107,7 @@ pub(crate) fn symbol_name(syms: &Symbols, f: SymId) -> &str
 }
 
 /// The name of the sort, the empty text where it is not in the table.
-pub(crate) fn sort_name(syms: &Symbols, sort: Sort) -> &str
+pub fn sort_name(syms: &Symbols, sort: Sort) -> &str
     ensures { result.now ≡ sort_text syms.now sort }
 {
     match syms.sort_name(sort) {

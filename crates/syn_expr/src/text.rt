@@ -6,7 +6,7 @@ use itoa::Buffer;
 use syn_term::NoMemory;
 
 /// Puts the text after what stands already. The one error is want of memory.
-pub(crate) fn put(out: &mut String, text: &str) -> Result<(), NoMemory>
+pub fn put(out: &mut String, text: &str) -> Result<(), NoMemory>
     ensures { OnOk result (string_bytes out.new ≡ string_bytes out.old ++ text.now) }
 {
     out.push_str(text)?;
@@ -14,7 +14,7 @@ pub(crate) fn put(out: &mut String, text: &str) -> Result<(), NoMemory>
 }
 
 /// Puts the number, in decimal, after what stands already. The one error is want of memory.
-pub(crate) fn put_number(out: &mut String, number: u32) -> Result<(), NoMemory>
+pub fn put_number(out: &mut String, number: u32) -> Result<(), NoMemory>
     ensures { OnOk result (string_bytes out.new ≡ string_bytes out.old ++ decimal number) }
 {
     let mut buffer = Buffer::new();
@@ -22,7 +22,7 @@ pub(crate) fn put_number(out: &mut String, number: u32) -> Result<(), NoMemory>
 }
 
 /// What stands before the item with this index, where `between` stands between two items.
-pub(crate) fn separator(i: usize, between: &str) -> &str
+pub fn separator(i: usize, between: &str) -> &str
     ensures { result.now ≡ (if i == 0 then [] else between.now) }
 {
     if i == 0 { "" } else { between }

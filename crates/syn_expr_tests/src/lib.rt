@@ -7,7 +7,3 @@
 mod printed;
 #[cfg(test)]
 mod read;
-#[cfg(test)]
-mod tables;
-#[cfg(test)]
-mod theories;

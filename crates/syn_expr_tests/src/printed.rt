@@ -3,7 +3,7 @@
 ghost use Rattle.std.specs.Prelude.{IfOk};
 ghost use Rattle.syn_term.specs.Bank.{Belongs};
 
-use crate::tables::added;
+use syn_cases::added;
 use sqlite_items::Items;
 use std::alloc::Global;
 use std::test::Fail;

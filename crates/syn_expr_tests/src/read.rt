@@ -2,7 +2,7 @@
 // rows, and texts about the limits.
 ghost use Rattle.syn_expr.specs.Scopes.{LeavesNumbersToBinders, spoken};
 
-use crate::tables::{added, cut};
+use syn_cases::{added, cut};
 use std::alloc::Global;
 use std::process::Abort;
 use std::test::Fail;

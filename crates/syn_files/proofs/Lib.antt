@@ -1,5 +1,8 @@
 pub mod FirstLaws
 pub mod SimpleLaws
+pub mod Printing
+pub mod SameTexts
+pub mod LineNames
 pub mod Keywords
 pub mod StepLaws
 pub mod EntryLaws
@@ -17,3 +20,15 @@ pub mod SpecLoop
 pub mod NumberLaws
 pub mod MonoLaws
 pub mod ParamLaws
+pub mod Spellings
+pub mod TheoryTables
+pub mod SimpleBack
+pub mod ExprBack
+pub mod ClauseBack
+pub mod OrderBack
+pub mod MonoBack
+pub mod NamelessLines
+pub mod NamedVars
+pub mod ClauseLines
+pub mod OrderLines
+pub mod LinesLead

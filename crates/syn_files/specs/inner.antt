@@ -4,3 +4,4 @@ pub mod Telling
 pub mod Inputs
 pub mod SpecWords
 pub mod SpecTelling
+pub mod Entries

@@ -48,9 +48,9 @@ module _ (part f : FormTree) (by r : Bool) (tested : r ≡ same_form f part) whe
     still : (g : FormTree) → f ≡ g → same_form g part ≡ false
     still g is = subst (λ (z : FormTree). same_form z part ≡ false) is (sym tested ∙ missed)
 
-    pub not_end : (a x y z : FormTree) → f ≡ view.Not a → x ≡ a → y ≡ replaced_all part by x → z ≡ y → view.Not z ≡ replaced_all part by f
-    not_end a x y z is k l n =
-        ap (λ (w : FormTree). view.Not w) (n ∙ (l ∙ ap (replaced_all part by) k)) ∙ (sym ((replaced_parts part by).at_not a (still (view.Not a) is)) ∙ sym (ap (replaced_all part by) is))
+    pub not_end : (a x y : FormTree) → f ≡ view.Not a → x ≡ a → y ≡ replaced_all part by x → view.Not y ≡ replaced_all part by f
+    not_end a x y is k l =
+        ap (λ (w : FormTree). view.Not w) (l ∙ ap (replaced_all part by) k) ∙ (sym ((replaced_parts part by).at_not a (still (view.Not a) is)) ∙ sym (ap (replaced_all part by) is))
 
     at_chain : (j : Junction) (all : List FormTree) → f ≡ chain j all → replaced_all part by (chain j all) ≡ chain j (map (replaced_all part by) all)
     at_chain conjunction all is = (replaced_parts part by).at_and all (still (view.And all) is)
@@ -59,7 +59,7 @@ module _ (part f : FormTree) (by r : Bool) (tested : r ≡ same_form f part) whe
     pub chain_end : (j : Junction) (all xs ys : List FormTree) → f ≡ chain j all → xs ≡ all → ys ≡ map (replaced_all part by) xs → chain j ys ≡ replaced_all part by f
     chain_end j all xs ys is k l = ap (chain j) (l ∙ ap (map (replaced_all part by)) k) ∙ (sym (at_chain j all is) ∙ sym (ap (replaced_all part by) is))
 
-    pub implies_end : (a b x y v w g h : FormTree) → f ≡ view.Implies a b → x ≡ a → y ≡ b → v ≡ replaced_all part by x → w ≡ replaced_all part by y → g ≡ v → h ≡ w → view.Implies g h ≡ replaced_all part by f
-    implies_end a b x y v w g h is k l m n o p =
-        ap (λ (z : FormTree). view.Implies z h) (o ∙ (m ∙ ap (replaced_all part by) k)) ∙ (ap (λ (z : FormTree). view.Implies (replaced_all part by a) z) (p ∙ (n ∙ ap (replaced_all part by) l))
+    pub implies_end : (a b x y v w : FormTree) → f ≡ view.Implies a b → x ≡ a → y ≡ b → v ≡ replaced_all part by x → w ≡ replaced_all part by y → view.Implies v w ≡ replaced_all part by f
+    implies_end a b x y v w is k l m n =
+        ap (λ (z : FormTree). view.Implies z w) (m ∙ ap (replaced_all part by) k) ∙ (ap (λ (z : FormTree). view.Implies (replaced_all part by a) z) (n ∙ ap (replaced_all part by) l)
         ∙ (sym ((replaced_parts part by).at_implies a b (still (view.Implies a b) is)) ∙ sym (ap (replaced_all part by) is)))

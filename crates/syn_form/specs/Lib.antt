@@ -9,13 +9,13 @@ pub mod Simplification
 pub mod Truth
 pub mod SimplificationLaws
 pub mod Scopes
+pub mod Writing
 pub mod Printing
 pub mod Grammar
 pub mod Lists
 pub mod Quantified
 pub mod Elaboration
 pub mod Texts
-pub mod Writing
 pub mod Replacing
 pub mod ReplacingLaws
 pub mod Inputs

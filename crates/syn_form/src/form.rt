@@ -2,13 +2,15 @@
 ghost use Rattle.std.specs.Prelude.{◌≡◌, ◌↔◌, ◌+◌, ◌++◌, max, min, map, sum, slice_get, IfOk, IsTrue};
 ghost use Rattle.std.specs.Option.{option_map};
 ghost use Rattle.syn_term.specs.Terms.{bare, depth_of, greatest, nodes};
+ghost use Rattle.syn_form.specs.declared.trees.Form.TheViews as views;
 ghost use Rattle.syn_form.specs.Positions.{formula, part_at, parts_of, at_position, seen, term};
 ghost use Rattle.syn_form.specs.Same.{OfOneBank, SameFormMeansEqual};
 ghost use Rattle.syn_form.specs.Trees.{all_of, bare_form, form_depth, form_nodes, form_terms};
 
 use crate::trees::{Form, Part};
 use sqlite_items::at;
-use syn_term::{NoMemory, Pos, Term};
+use std::alloc::Global;
+use syn_term::{NoMemory, Pos, Shared, Term};
 
 impl Form {
     /// The same formula once more. It takes no memory; the one error, NoMemory, is that a pointer's
@@ -19,12 +21,30 @@ impl Form {
         match self {
             Form::True => Ok(Form::True),
             Form::False => Ok(Form::False),
-            Form::Atom(r, args) => Ok(Form::Atom(*r, args.again()?)),
-            Form::Equal(s, t) => Ok(Form::Equal(s.again()?, t.again()?)),
-            Form::Not(a) => Ok(Form::Not(a.again()?)),
-            Form::And(all) => Ok(Form::And(all.again()?)),
-            Form::Or(all) => Ok(Form::Or(all.again()?)),
-            Form::Implies(a, b) => Ok(Form::Implies(a.again()?, b.again()?)),
+            Form::Atom(r, args) => match args.again() {
+                Ok(args) => Ok(Form::Atom(*r, args)),
+                Err(_) => Err(NoMemory),
+            },
+            Form::Equal(s, t) => match both_again(s, t) {
+                Ok((s, t)) => Ok(Form::Equal(s, t)),
+                Err(error) => Err(error),
+            },
+            Form::Not(a) => match a.again() {
+                Ok(a) => Ok(Form::Not(a)),
+                Err(_) => Err(NoMemory),
+            },
+            Form::And(all) => match all.again() {
+                Ok(all) => Ok(Form::And(all)),
+                Err(_) => Err(NoMemory),
+            },
+            Form::Or(all) => match all.again() {
+                Ok(all) => Ok(Form::Or(all)),
+                Err(_) => Err(NoMemory),
+            },
+            Form::Implies(a, b) => match both_again(a, b) {
+                Ok((a, b)) => Ok(Form::Implies(a, b)),
+                Err(error) => Err(error),
+            },
         }
     }
 
@@ -193,6 +213,61 @@ impl Form {
                 a.get().is_one(c.get()) && b.get().is_one(d.get())
             }
             _ => false,
+        }
+    }
+}
+
+/// `not a`.
+pub(crate) fn negation_of(alloc: Global, a: Form) -> Result<Form, NoMemory>
+    ensures { IfOk result (λ g. g ≡ views.Not a) }
+{
+    match Shared::new(alloc, a) {
+        Ok(a) => Ok(Form::Not(a)),
+        Err(_) => Err(NoMemory),
+    }
+}
+
+/// `a -> b`.
+pub(crate) fn implication_of(alloc: Global, a: Form, b: Form) -> Result<Form, NoMemory>
+    ensures { IfOk result (λ g. g ≡ views.Implies a b) }
+{
+    match both_shared(alloc, a, b) {
+        Ok((a, b)) => Ok(Form::Implies(a, b)),
+        Err(error) => Err(error),
+    }
+}
+
+fn both_shared(alloc: Global, a: Form, b: Form) -> Result<(Shared<Form>, Shared<Form>), NoMemory>
+    ensures { IfOk result (λ both. (both.0 ≡ a) × (both.1 ≡ b)) }
+{
+    match Shared::new(alloc, a) {
+        Err(_) => {
+            drop(b);
+            Err(NoMemory)
+        }
+        Ok(a) => match Shared::new(alloc, b) {
+            Ok(b) => Ok((a, b)),
+            Err(_) => {
+                drop(a);
+                Err(NoMemory)
+            }
+        },
+    }
+}
+
+/// Two parts of a formula once more.
+pub(crate) fn both_again<T: Drop>(
+    a: &Shared<T>,
+    b: &Shared<T>,
+) -> Result<(Shared<T>, Shared<T>), NoMemory>
+    ensures { IfOk result (λ both. (both.0 ≡ a.now) × (both.1 ≡ b.now)) }
+{
+    let a = a.again()?;
+    match b.again() {
+        Ok(b) => Ok((a, b)),
+        Err(_) => {
+            drop(a);
+            Err(NoMemory)
         }
     }
 }

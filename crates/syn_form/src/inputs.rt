@@ -11,6 +11,7 @@ ghost use Rattle.syn_form.specs.inner.Joining.{terms_of};
 ghost use Rattle.syn_form.specs.Plain.{IsFormed, IsSorted};
 ghost use Rattle.syn_form.specs.Trees.{bare_form, form_terms};
 
+use crate::form::{implication_of, negation_of};
 use crate::trees::Form;
 use sqlite_items::Items;
 use std::alloc::Global;
@@ -181,22 +182,27 @@ fn put_in_form(
         Form::False => Ok(Form::False),
         Form::Atom(r, args) => put_in_atom(bank, alloc, syms, *r, args.get().as_slice(), inputs),
         Form::Equal(s, t) => put_in_equality(bank, alloc, syms, s, t, inputs),
-        Form::Not(a) => {
-            let a = put_in_form(bank, alloc, syms, a.get(), inputs)?;
-            Ok(Form::Not(Shared::new(alloc, a)?))
-        }
-        Form::And(all) => {
-            let all = put_in_forms(bank, alloc, syms, all.get().as_slice(), inputs)?;
-            Ok(Form::And(all))
-        }
-        Form::Or(all) => {
-            let all = put_in_forms(bank, alloc, syms, all.get().as_slice(), inputs)?;
-            Ok(Form::Or(all))
-        }
+        Form::Not(a) => match put_in_form(bank, alloc, syms, a.get(), inputs) {
+            Ok(a) => negation_of(alloc, a),
+            other => other,
+        },
+        Form::And(all) => match put_in_forms(bank, alloc, syms, all.get().as_slice(), inputs) {
+            Ok(all) => Ok(Form::And(all)),
+            Err(error) => Err(error),
+        },
+        Form::Or(all) => match put_in_forms(bank, alloc, syms, all.get().as_slice(), inputs) {
+            Ok(all) => Ok(Form::Or(all)),
+            Err(error) => Err(error),
+        },
         Form::Implies(a, b) => {
-            let a = Shared::new(alloc, put_in_form(bank, alloc, syms, a.get(), inputs)?)?;
-            let b = Shared::new(alloc, put_in_form(bank, alloc, syms, b.get(), inputs)?)?;
-            Ok(Form::Implies(a, b))
+            let a = put_in_form(bank, alloc, syms, a.get(), inputs)?;
+            match put_in_form(bank, alloc, syms, b.get(), inputs) {
+                Ok(b) => implication_of(alloc, a, b),
+                other => {
+                    drop(a);
+                    other
+                }
+            }
         }
     }
 }
@@ -233,8 +239,8 @@ fn put_in_forms(
 /// a formed formula, and which variables it has, is the record `PutsInputs`. The one error is
 /// `NoMemory`.
 pub fn put_inputs(
-    bank: &mut Bank,
     alloc: Global,
+    bank: &mut Bank,
     syms: &Symbols,
     f: &Form,
     inputs: &[(SymId, Term)],

@@ -34,7 +34,7 @@ pub use signs::polarity;
 pub use simplifying::{simplify, simplify_out};
 pub use sorts::{are_of_one_sort, given_sort, is_atom, is_sort};
 pub use syntax::{
-    BinderSyntax, FormSyntax, HeadName, Lexeme, Mark, OutSyntax, Quantifier, TermSyntax,
+    BinderSyntax, FormSyntax, HeadName, Lexeme, Mark, NameText, OutSyntax, Quantifier, TermSyntax,
 };
 pub use terms::{are_sorted, is_sorted};
 pub use trees::{Binder, Form, Mono, Out, Part, QForm, Side};

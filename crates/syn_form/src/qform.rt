@@ -1,8 +1,10 @@
 // A formula with quantifiers once more.
 ghost use Rattle.std.specs.Prelude.{◌≡◌, IfOk};
+ghost use Rattle.syn_form.specs.declared.trees.QForm.TheViews as views;
 
+use crate::form::both_again;
 use crate::trees::{Binder, QForm};
-use syn_term::NoMemory;
+use syn_term::{NoMemory, Shared};
 
 impl Binder {
     /// The same binder once more, its name in memory of its own.
@@ -25,14 +27,66 @@ impl QForm {
         match self {
             QForm::True => Ok(QForm::True),
             QForm::False => Ok(QForm::False),
-            QForm::Atom(r, args) => Ok(QForm::Atom(*r, args.again()?)),
-            QForm::Equal(s, t) => Ok(QForm::Equal(s.again()?, t.again()?)),
-            QForm::Not(a) => Ok(QForm::Not(a.again()?)),
-            QForm::And(all) => Ok(QForm::And(all.again()?)),
-            QForm::Or(all) => Ok(QForm::Or(all.again()?)),
-            QForm::Implies(a, b) => Ok(QForm::Implies(a.again()?, b.again()?)),
-            QForm::All(b, a) => Ok(QForm::All(b.again()?, a.again()?)),
-            QForm::Exists(b, a) => Ok(QForm::Exists(b.again()?, a.again()?)),
+            QForm::Atom(r, args) => match args.again() {
+                Ok(args) => Ok(QForm::Atom(*r, args)),
+                Err(_) => Err(NoMemory),
+            },
+            QForm::Equal(s, t) => match both_again(s, t) {
+                Ok((s, t)) => Ok(QForm::Equal(s, t)),
+                Err(error) => Err(error),
+            },
+            QForm::Not(a) => match a.again() {
+                Ok(a) => Ok(QForm::Not(a)),
+                Err(_) => Err(NoMemory),
+            },
+            QForm::Implies(a, b) => match both_again(a, b) {
+                Ok((a, b)) => Ok(QForm::Implies(a, b)),
+                Err(error) => Err(error),
+            },
+            QForm::And(all) => match all.again() {
+                Ok(all) => Ok(QForm::And(all)),
+                Err(_) => Err(NoMemory),
+            },
+            QForm::Or(all) => match all.again() {
+                Ok(all) => Ok(QForm::Or(all)),
+                Err(_) => Err(NoMemory),
+            },
+            QForm::All(b, a) => all_again(b, a),
+            QForm::Exists(b, a) => exists_again(b, a),
         }
+    }
+}
+
+/// The binder and what stands under it once more.
+fn bound_again(b: &Binder, a: &Shared<QForm>) -> Result<(Binder, Shared<QForm>), NoMemory>
+    ensures { IfOk result (λ both. (both.0 ≡ b.now) × (both.1 ≡ a.now)) }
+{
+    match a.again() {
+        Err(_) => Err(NoMemory),
+        Ok(a) => match b.again() {
+            Ok(b) => Ok((b, a)),
+            Err(error) => {
+                drop(a);
+                Err(error)
+            }
+        },
+    }
+}
+
+fn all_again(b: &Binder, a: &Shared<QForm>) -> Result<QForm, NoMemory>
+    ensures { IfOk result (λ g. g ≡ views.All b.now a.now) }
+{
+    match bound_again(b, a) {
+        Ok((b, a)) => Ok(QForm::All(b, a)),
+        Err(error) => Err(error),
+    }
+}
+
+fn exists_again(b: &Binder, a: &Shared<QForm>) -> Result<QForm, NoMemory>
+    ensures { IfOk result (λ g. g ≡ views.Exists b.now a.now) }
+{
+    match bound_again(b, a) {
+        Ok((b, a)) => Ok(QForm::Exists(b, a)),
+        Err(error) => Err(error),
     }
 }

@@ -6,6 +6,7 @@ ghost use Rattle.syn_form.specs.ReplacingLaws.{ReplacesAll};
 ghost use Rattle.syn_form.specs.Same.{OfOneBank};
 ghost use Rattle.syn_form.specs.Trees.{form_terms};
 
+use crate::form::{implication_of, negation_of};
 use crate::joins::is_same;
 use crate::trees::Form;
 use sqlite_items::Items;
@@ -33,16 +34,27 @@ fn replaced(alloc: Global, f: &Form, part: &Form, by: bool) -> Result<Form, NoMe
         Form::False => Ok(Form::False),
         Form::Atom(_, _) => f.again(),
         Form::Equal(_, _) => f.again(),
-        Form::Not(a) => {
-            let a = replaced(alloc, a.get(), part, by)?;
-            Ok(Form::Not(Shared::new(alloc, a)?))
-        }
-        Form::And(all) => Ok(Form::And(replaced_members(alloc, all.get().as_slice(), part, by)?)),
-        Form::Or(all) => Ok(Form::Or(replaced_members(alloc, all.get().as_slice(), part, by)?)),
+        Form::Not(a) => match replaced(alloc, a.get(), part, by) {
+            Ok(a) => negation_of(alloc, a),
+            other => other,
+        },
+        Form::And(all) => match replaced_members(alloc, all.get().as_slice(), part, by) {
+            Ok(all) => Ok(Form::And(all)),
+            Err(error) => Err(error),
+        },
+        Form::Or(all) => match replaced_members(alloc, all.get().as_slice(), part, by) {
+            Ok(all) => Ok(Form::Or(all)),
+            Err(error) => Err(error),
+        },
         Form::Implies(a, b) => {
-            let a = Shared::new(alloc, replaced(alloc, a.get(), part, by)?)?;
-            let b = Shared::new(alloc, replaced(alloc, b.get(), part, by)?)?;
-            Ok(Form::Implies(a, b))
+            let a = replaced(alloc, a.get(), part, by)?;
+            match replaced(alloc, b.get(), part, by) {
+                Ok(b) => implication_of(alloc, a, b),
+                other => {
+                    drop(a);
+                    other
+                }
+            }
         }
     }
 }

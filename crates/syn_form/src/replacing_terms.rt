@@ -3,25 +3,59 @@ ghost use Rattle.std.specs.Prelude.{◌≡◌, ◌≤◌, ◌↔◌, ◌+◌, Al
 ghost use Rattle.syn_term.specs.Bank.{Belongs, Extends};
 ghost use Rattle.syn_term.specs.Positions.{MayReplace, replaced_at};
 ghost use Rattle.syn_term.specs.Terms.{bare, sort_of};
+ghost use Rattle.syn_form.specs.declared.trees.Form.TheVariants as form;
+ghost use Rattle.syn_form.specs.declared.trees.Form.TheViews as views;
 ghost use Rattle.syn_form.specs.Positions.{formula, term};
 ghost use Rattle.syn_form.specs.Replacing.{MayReplaceTerm, form_replaced_at, with_kth, with_part};
 ghost use Rattle.syn_form.specs.ReplacingLaws.{ReplacesTerm};
 ghost use Rattle.syn_form.specs.Trees.{bare_form, form_terms};
 
+use crate::form::negation_of;
 use crate::trees::{Form, Part};
 use sqlite_items::Items;
 use std::alloc::Global;
 use syn_term::{Bank, NoMemory, Pos, Shared, Symbols, Term};
 
 /// The terms with another at k, counted from 1.
-fn terms_with(alloc: Global, terms: &[Term], k: u32, new: Term) -> Result<Items<Term>, NoMemory>
+fn terms_with(
+    alloc: Global,
+    terms: &[Term],
+    k: u32,
+    new: Term,
+) -> Result<Shared<Items<Term>>, NoMemory>
     ensures { IfOk result (λ xs. xs ≡ with_kth terms.now k new) }
 {
     let mut items = terms_again(alloc, terms)?;
     if 1 <= k && k as usize <= items.len() {
         items.set(k as usize - 1, new);
     }
-    Ok(items)
+    Ok(Shared::new(alloc, items)?)
+}
+
+/// `new = t`.
+fn with_first(new: Term, t: &Term) -> Result<Form, NoMemory>
+    ensures { IfOk result (λ g. g ≡ form.Equal new t.now) }
+{
+    match t.again() {
+        Ok(t) => Ok(Form::Equal(new, t)),
+        Err(_) => {
+            drop(new);
+            Err(NoMemory)
+        }
+    }
+}
+
+/// `s = new`.
+fn with_second(s: &Term, new: Term) -> Result<Form, NoMemory>
+    ensures { IfOk result (λ g. g ≡ form.Equal s.now new) }
+{
+    match s.again() {
+        Ok(s) => Ok(Form::Equal(s, new)),
+        Err(_) => {
+            drop(new);
+            Err(NoMemory)
+        }
+    }
 }
 
 /// The same terms once more.
@@ -36,12 +70,56 @@ fn terms_again(alloc: Global, terms: &[Term]) -> Result<Items<Term>, NoMemory>
 }
 
 /// The formulas with another at k, counted from 1.
-fn forms_with(alloc: Global, forms: &[Form], k: u32, new: Form) -> Result<Items<Form>, NoMemory>
+fn forms_with(
+    alloc: Global,
+    forms: &[Form],
+    k: u32,
+    new: Form,
+) -> Result<Shared<Items<Form>>, NoMemory>
     ensures { IfOk result (λ xs. xs ≡ with_kth forms.now k new) }
 {
-    let mut items = forms_again(alloc, forms)?;
-    set_kth(&mut items, k, new);
-    Ok(items)
+    match forms_again(alloc, forms) {
+        Ok(mut items) => {
+            set_kth(&mut items, k, new);
+            Ok(Shared::new(alloc, items)?)
+        }
+        Err(error) => {
+            drop(new);
+            Err(error)
+        }
+    }
+}
+
+/// `new -> b`.
+fn with_left(alloc: Global, new: Form, b: &Shared<Form>) -> Result<Form, NoMemory>
+    ensures { IfOk result (λ g. g ≡ views.Implies new b.now) }
+{
+    match Shared::new(alloc, new) {
+        Err(_) => Err(NoMemory),
+        Ok(a) => match b.again() {
+            Ok(b) => Ok(Form::Implies(a, b)),
+            Err(_) => {
+                drop(a);
+                Err(NoMemory)
+            }
+        },
+    }
+}
+
+/// `a -> new`.
+fn with_right(alloc: Global, a: &Shared<Form>, new: Form) -> Result<Form, NoMemory>
+    ensures { IfOk result (λ g. g ≡ views.Implies a.now new) }
+{
+    match Shared::new(alloc, new) {
+        Err(_) => Err(NoMemory),
+        Ok(b) => match a.again() {
+            Ok(a) => Ok(Form::Implies(a, b)),
+            Err(_) => {
+                drop(b);
+                Err(NoMemory)
+            }
+        },
+    }
 }
 
 /// Puts the formula in place of the k-th, where there is one.
@@ -87,13 +165,13 @@ fn with_term(alloc: Global, f: &Form, k: u32, new: Term) -> Result<Form, NoMemor
     ensures { IfOk result (λ g. g ≡ with_part f.now (term new) k) }
 {
     match f {
-        Form::Atom(r, args) => {
-            let args = terms_with(alloc, args.get().as_slice(), k, new)?;
-            Ok(Form::Atom(*r, Shared::new(alloc, args)?))
-        }
+        Form::Atom(r, args) => match terms_with(alloc, args.get().as_slice(), k, new) {
+            Ok(args) => Ok(Form::Atom(*r, args)),
+            Err(error) => Err(error),
+        },
         Form::Equal(s, t) => match k {
-            1 => Ok(Form::Equal(new, t.again()?)),
-            2 => Ok(Form::Equal(s.again()?, new)),
+            1 => with_first(new, t),
+            2 => with_second(s, new),
             _ => {
                 drop(new);
                 f.again()
@@ -112,23 +190,23 @@ fn with_form(alloc: Global, f: &Form, k: u32, new: Form) -> Result<Form, NoMemor
 {
     match f {
         Form::Not(_) => match k {
-            1 => Ok(Form::Not(Shared::new(alloc, new)?)),
+            1 => negation_of(alloc, new),
             _ => {
                 drop(new);
                 f.again()
             }
         },
-        Form::And(all) => {
-            let all = forms_with(alloc, all.get().as_slice(), k, new)?;
-            Ok(Form::And(Shared::new(alloc, all)?))
-        }
-        Form::Or(all) => {
-            let all = forms_with(alloc, all.get().as_slice(), k, new)?;
-            Ok(Form::Or(Shared::new(alloc, all)?))
-        }
+        Form::And(all) => match forms_with(alloc, all.get().as_slice(), k, new) {
+            Ok(all) => Ok(Form::And(all)),
+            Err(error) => Err(error),
+        },
+        Form::Or(all) => match forms_with(alloc, all.get().as_slice(), k, new) {
+            Ok(all) => Ok(Form::Or(all)),
+            Err(error) => Err(error),
+        },
         Form::Implies(a, b) => match k {
-            1 => Ok(Form::Implies(Shared::new(alloc, new)?, b.again()?)),
-            2 => Ok(Form::Implies(a.again()?, Shared::new(alloc, new)?)),
+            1 => with_left(alloc, new, b),
+            2 => with_right(alloc, a, new),
             _ => {
                 drop(new);
                 f.again()
@@ -216,8 +294,8 @@ fn may_replace(syms: &Symbols, f: &Form, p: &Pos, new: &Term) -> bool
 /// variables it has, is the record `ReplacesTerm`.
 #[tactic(auto, using(crate::proofs::InputTerms::growth))]
 pub fn replace_term(
-    bank: &mut Bank,
     alloc: Global,
+    bank: &mut Bank,
     syms: &Symbols,
     f: &Form,
     p: &Pos,

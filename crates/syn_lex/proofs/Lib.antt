@@ -10,3 +10,4 @@ pub mod Comments
 pub mod ByGrammar
 pub mod NotSpelled
 mod LineWords
+mod AsciiNames

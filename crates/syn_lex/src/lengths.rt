@@ -5,6 +5,7 @@ ghost use Rattle.std.specs.Char.{is_ascii_digit};
 ghost use Rattle.std.specs.Str.{bytes_eq, chars, IsUtf8};
 ghost use Rattle.std.specs.Str.Lossy.{utf8_valid_len};
 ghost use Rattle.std.specs.List.{prefix_len};
+ghost use Rattle.syn_term.specs.Names.{is_name_byte};
 ghost use Rattle.syn_term.specs.Tokens as tokens;
 
 use unicode_ident::{is_xid_continue, is_xid_start};
@@ -17,7 +18,7 @@ const NAME_WINDOW: usize = 68;
 const MAX_DIGITS: usize = 7;
 
 /// The byte there, or 0 past the end.
-pub(crate) fn byte_at(rest: &[u8], k: usize) -> u8
+pub fn byte_at(rest: &[u8], k: usize) -> u8
     ensures { result ≡ get_or rest.now k 0 }
 {
     match rest.get(k) {
@@ -118,11 +119,41 @@ fn front_word_len(bytes: &[u8]) -> usize
 
 /// The length of the name or reserved word at the front.
 #[tactic(auto, unfolding(syn_term::specs::Tokens::name_len))]
-pub(crate) fn name_len(rest: &[u8]) -> usize
+fn any_name_len(rest: &[u8]) -> usize
     ensures value { result ≡ tokens.name_len rest.now }
     ensures within { result ≤ length rest.now }
 {
     at_most(MAX_NAME_BYTES, front_word_len(front(rest, NAME_WINDOW)))
+}
+
+fn is_name_byte(b: u8) -> bool
+    ensures { result ≡ is_name_byte b }
+{
+    b.is_ascii_alphanumeric() || b == b'_'
+}
+
+/// How many bytes at the front are ASCII letters, digits and underscores.
+fn ascii_run(rest: &[u8]) -> usize
+    ensures value { result ≡ prefix_len is_name_byte rest.now }
+    ensures within { result ≤ length rest.now }
+{
+    rest.iter().take_while(|b| is_name_byte(**b)).count()
+}
+
+/// The same, where a name of ASCII characters alone, which is all that most texts have, is told by its bytes.
+pub(crate) fn name_len(rest: &[u8]) -> usize
+    ensures value { result ≡ tokens.name_len rest.now }
+    ensures within { result ≤ length rest.now }
+{
+    let n = ascii_run(rest);
+    if n <= MAX_NAME_BYTES
+        && byte_at(rest, 0).is_ascii_alphabetic()
+        && byte_at(rest, n).is_ascii()
+    {
+        n
+    } else {
+        any_name_len(rest)
+    }
 }
 
 fn is_reserved(word: &[u8]) -> bool

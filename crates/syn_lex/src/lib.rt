@@ -10,6 +10,7 @@ mod line_words;
 mod lines;
 mod token;
 
+pub use lengths::byte_at;
 pub use lexer::{line_tokens, tokens};
 pub use line_words::Words;
 pub use lines::{Cut, FileError, split_at, split_lines};

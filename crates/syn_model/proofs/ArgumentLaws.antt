@@ -1,20 +1,14 @@
 -- The arguments of a symbol with arguments, and when they are variables.
-use Rattle.std.proofs.Common.{◌≡◌, ◌↔◌, Bool, true, IsTrue, List, [], ◌∷◌, All, map, refl, sym, ◌∙◌, ap, subst, rules, get_or}
-use Rattle.std.proofs.lemmas.List.Elements.{All-head, All-tail}
-use denote.Hole.Carrier.{roll}
-use Rattle.syn_term.specs.declared.sorts.Head.TheVariants as head
+use Rattle.std.proofs.Common.{◌≡◌, ◌↔◌, Bool, IsTrue, List, All, sym, ◌∙◌, ap, subst, rules}
 use Rattle.syn_term.specs.declared.sorts.SymId.{SymId}
 use Rattle.syn_term.specs.declared.sorts.Var.{Var}
 use Rattle.syn_term.specs.declared.term.Place.{Place}
-use Rattle.syn_term.specs.declared.term.Node.{Node, out-Node, roll-Node, map-Node, every_here-Node, every_made-Node}
+use Rattle.syn_term.specs.declared.term.Node.{Node, out-Node}
 use Rattle.syn_term.specs.declared.term.Node.TheOpen.{Node-F}
 use Rattle.syn_term.specs.declared.term.Node.TheVariants as node
 use Rattle.syn_term.specs.declared.term.Node.TheViews as view
 use Rattle.syn_term.specs.declared.term.Node.TheViews.{the_lemmas}
-use Rattle.syn_term.specs.Symbols.{SymbolTable}
-use Rattle.syn_term.specs.Terms.{TermTree, IsApplication, args_of, head_of}
-use Rattle.syn_term.proofs.Trees.{by_terms}
-use Rattle.syn_form.specs.Plain.{IsSorted, SortedNode}
+use Rattle.syn_term.specs.Terms.{TermTree, args_of}
 use Rattle.syn_model.specs.Clauses.{IsVariable}
 
 out-Var : (p : Place) (v : Var) → out-Node (node.Var p v) ≡ Node-F.Var p v

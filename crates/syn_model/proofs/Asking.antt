@@ -9,15 +9,13 @@ use Rattle.syn_model.specs.Declaring.{Asks, IsOtherwiseFree, MayAxiom, MayFunCla
 use Rattle.std.specs.Prelude.{ℕ}
 
 module _ (ds : List Decl) (d : Decl) (b : Bool) where
-  pub fun_asked : (es : List Decl) (args xs : List TermTree) (body : OutTree) → d ≡ decl.FunClause args body → es ≡ ds → xs ≡ args → IsTrue b ↔ MayFunClause es xs body → IsTrue b ↔ Asks ds d
-  fun_asked es args xs body is all same t =
-      subst (λ (z : Decl). IsTrue b ↔ Asks ds z) (sym is)
-      (subst (λ (z : List Decl). IsTrue b ↔ MayFunClause z args body) all (subst (λ (z : List TermTree). IsTrue b ↔ MayFunClause es z body) same t))
+  pub fun_asked : (args xs : List TermTree) (body : OutTree) → d ≡ decl.FunClause args body → xs ≡ args → IsTrue b ↔ MayFunClause ds xs body → IsTrue b ↔ Asks ds d
+  fun_asked args xs body is same t =
+      subst (λ (z : Decl). IsTrue b ↔ Asks ds z) (sym is) (subst (λ (z : List TermTree). IsTrue b ↔ MayFunClause ds z body) same t)
 
-  pub rel_asked : (es : List Decl) (args xs : List TermTree) (body : FormTree) → d ≡ decl.RelClause args body → es ≡ ds → xs ≡ args → IsTrue b ↔ MayRelClause es xs body → IsTrue b ↔ Asks ds d
-  rel_asked es args xs body is all same t =
-      subst (λ (z : Decl). IsTrue b ↔ Asks ds z) (sym is)
-      (subst (λ (z : List Decl). IsTrue b ↔ MayRelClause z args body) all (subst (λ (z : List TermTree). IsTrue b ↔ MayRelClause es z body) same t))
+  pub rel_asked : (args xs : List TermTree) (body : FormTree) → d ≡ decl.RelClause args body → xs ≡ args → IsTrue b ↔ MayRelClause ds xs body → IsTrue b ↔ Asks ds d
+  rel_asked args xs body is same t =
+      subst (λ (z : Decl). IsTrue b ↔ Asks ds z) (sym is) (subst (λ (z : List TermTree). IsTrue b ↔ MayRelClause ds z body) same t)
 
   pub axiom_asked : (name x : List ℕ) (f : QFormTree) → d ≡ decl.Axiom name f → x ≡ name → IsTrue b ↔ MayAxiom ds x f → IsTrue b ↔ Asks ds d
   axiom_asked name x f is same t =

@@ -17,10 +17,11 @@ module _ (before after : SymbolTable) (r : Result Bool NoMemory) where
   abbrev Brings : Decl → Type 0
   Brings d = IfOk r (Steps before after (table_after before d) (MayBring before d))
 
-  pub brings_rel : (d : Decl) (s : Sym) (name x : List ℕ) (args y : List Sort) → d ≡ decl.Rel name args → s ≡ rel_symbol x y → x ≡ name → y ≡ args → Adds s → Brings d
-  brings_rel d s name x args y e is n a h =
-      subst Brings (sym e) (subst Adds (is ∙ (ap (λ (z : List ℕ). rel_symbol z y) n ∙ ap (rel_symbol name) a)) h)
+  pub added_as : (s t : Sym) → s ≡ t → Adds s → Adds t
+  added_as s t is h = subst Adds is h
 
-  pub brings_order : (d : Decl) (s : Sym) (name x : List ℕ) (args y : List Sort) (measure : TermTree) → d ≡ decl.Order name args measure → s ≡ order_symbol x y → x ≡ name → y ≡ args → Adds s → Brings d
-  brings_order d s name x args y measure e is n a h =
-      subst Brings (sym e) (subst Adds (is ∙ (ap (λ (z : List ℕ). order_symbol z y) n ∙ ap (order_symbol name) a)) h)
+  pub brings_rel : (d : Decl) (name x : List ℕ) (args y : List Sort) → d ≡ decl.Rel name args → x ≡ name → y ≡ args → Adds (rel_symbol x y) → Brings d
+  brings_rel d name x args y e n a h = subst Brings (sym e) (subst Adds (ap (λ (z : List ℕ). rel_symbol z y) n ∙ ap (rel_symbol name) a) h)
+
+  pub brings_order : (d : Decl) (name x : List ℕ) (args y : List Sort) (measure : TermTree) → d ≡ decl.Order name args measure → x ≡ name → y ≡ args → Adds (order_symbol x y) → Brings d
+  brings_order d name x args y measure e n a h = subst Brings (sym e) (subst Adds (ap (λ (z : List ℕ). order_symbol z y) n ∙ ap (order_symbol name) a) h)

@@ -1,7 +1,6 @@
 pub mod Pieces
 pub mod Taken
 pub mod Brings
-pub mod Deciding
 pub mod Using
 pub mod Over
 pub mod Free
@@ -9,7 +8,6 @@ pub mod BoundVars
 pub mod ClauseLaws
 pub mod ArgumentLaws
 pub mod HeadingLaws
-pub mod Holding
 pub mod NewNames
 pub mod NumberLaws
 pub mod OrderLaws
@@ -29,3 +27,5 @@ pub mod Written
 pub mod SpecLaws
 pub mod SpecAsking
 pub mod BareExtending
+pub mod IndexLaws
+pub mod RowKeys

@@ -1,5 +1,5 @@
 -- A name is taken where a symbol is found by it or a sort is.
-use Rattle.std.proofs.Common.{◌≡◌, ◌≢◌, ◌↔◌, ℕ, List, Option, Some, None, Any, Bool, true, false, Contains, IsTrue, MatchOption, slice_get, refl, sym, ◌∙◌, ap, true≢false}
+use Rattle.std.proofs.Common.{◌≡◌, ◌≢◌, ◌↔◌, ℕ, List, Option, Some, None, Any, Bool, true, false, Contains, IsTrue, MatchOption, slice_get, refl, sym, ◌∙◌, ap, subst, true≢false}
 use Rattle.std.specs.Option.{is_some, option_map}
 use Rattle.std.proofs.lemmas.Option.{get_or_from_slice_get, slice_get-get_or, slice_get_within}
 use Rattle.syn_term.specs.declared.sorts.NamedSort.{NamedSort}
@@ -8,7 +8,7 @@ use Rattle.syn_term.specs.declared.sorts.Sort.TheVariants as sort
 use Rattle.syn_term.specs.declared.sorts.SymId.{SymId}
 use Rattle.syn_term.specs.Names.{IsName}
 use Rattle.syn_term.specs.Symbols.{SymbolTable, IsTaken, names_of}
-use Rattle.syn_term.specs.DeclaredSorts.{name_of_sort}
+use Rattle.syn_term.specs.DeclaredSorts.{IsTable, name_of_sort}
 use Rattle.syn_term.proofs.SortLemmas.{name_other}
 use mathlib.Core.Logic.{inl, inr}
 
@@ -47,3 +47,14 @@ pub taken_by_sort : (t : SymbolTable) (n : List ℕ) (o : Option SymId) (p : Opt
 taken_by_sort t n o p r named none h k e =
     let both = found t n p named (not_found t n o none h) k in
     ((λ is. both.0 (sym e ∙ is)), (λ t. e ∙ both.1 t))
+
+-- what is no name is taken where a symbol is found by it
+pub taken_by_symbol : (t : SymbolTable) (n : List ℕ) (o : Option SymId) (r : Bool) → IsTable t → (IsName n → ⊥) → Finds t n o → r ≡ is_some o → IsTrue r ↔ IsTaken t n
+taken_by_symbol t n None r table other h e = ((λ is. absurd (true≢false (sym is ∙ e))), never)
+  where
+    never : IsTaken t n → r ≡ true
+    never (inl c) = absurd (h c)
+    never (inr a) =
+        let named : IsName a.1.name = subst (λ (z : NamedSort). IsName z.name) a.3 (table.named_sorts a.0 a.1 a.2) in
+        absurd (other (subst IsName a.4 named))
+taken_by_symbol t n (Some id) r table other h e = ((λ is. inl (id.0, slice_get_within (names_of t) id.0 n h, get_or_from_slice_get (names_of t) id.0 n n h)), (λ k. e))

@@ -5,3 +5,4 @@ pub mod HeadTables
 pub mod HoldingSpecs
 pub mod Hashing
 pub mod Naming
+pub mod Indexing

@@ -5,7 +5,7 @@ ghost use Rattle.syn_model.specs.declared.decl.Decl.TheVariants as declared;
 use crate::decl::Decl;
 use sqlite_items::Items;
 use std::alloc::Global;
-use syn_form::{Form, Out, QForm};
+use syn_form::{Form, Mono, Out, QForm};
 use syn_term::{NoMemory, Sort, Term, Text};
 
 fn push_terms(terms: &[Term], items: &mut Items<Term>) -> Result<(), NoMemory>
@@ -121,6 +121,13 @@ fn axiom(name: &Text, form: &QForm) -> Result<Decl, NoMemory>
     Ok(Decl::Axiom { name, form })
 }
 
+fn monotone(name: &Text, mono: Mono) -> Result<Decl, NoMemory>
+    ensures { IfOk result (λ d. d ≡ declared.Monotone name.now mono) }
+{
+    let name = name.again()?;
+    Ok(Decl::Monotone { name, mono })
+}
+
 impl Decl {
     /// The same declaration once more. Its trees are shared; names and lists of sorts are copied.
     pub fn again(&self, alloc: Global) -> Result<Decl, NoMemory>
@@ -150,10 +157,7 @@ impl Decl {
                 measure,
             } => order(alloc, name, args.as_slice(), measure),
             Decl::Axiom { name, form } => axiom(name, form),
-            Decl::Monotone { name, mono } => Ok(Decl::Monotone {
-                name: name.again()?,
-                mono: *mono,
-            }),
+            Decl::Monotone { name, mono } => monotone(name, *mono),
         }
     }
 }

@@ -4,6 +4,7 @@
 
 mod among;
 mod axioms;
+mod bringing;
 mod clauses;
 mod closed;
 mod copying;
@@ -13,6 +14,7 @@ mod hashed;
 mod head_table;
 mod headings;
 mod heads;
+mod index;
 mod listing;
 mod may_follow;
 mod monos;

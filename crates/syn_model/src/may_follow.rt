@@ -1,6 +1,6 @@
 // Which declaration may follow which others, as far as the table is not asked.
 ghost use Rattle.std.specs.Prelude.{◌↔◌, IfOk, IsTrue};
-ghost use Rattle.syn_model.specs.Declaring.{Asks, ComesInTime, is_clause};
+ghost use Rattle.syn_model.specs.Declaring.{Asks, ComesInTime, MayFunClause, MayRelClause, is_clause};
 
 use crate::axioms::may_axiom;
 use crate::clauses::{may_fun_clause, may_rel_clause};
@@ -10,7 +10,8 @@ use crate::monos::may_mono;
 use crate::orders::{are_all_free, are_both_free, asks_head, asks_order};
 use crate::theory::Theory;
 use std::alloc::Global;
-use syn_term::NoMemory;
+use syn_form::{Form, Out};
+use syn_term::{NoMemory, Term};
 
 /// Whether the declaration is a clause, or comes where no clause is missing.
 fn comes_in_time(theory: &Theory, decl: &Decl) -> bool
@@ -21,6 +22,30 @@ fn comes_in_time(theory: &Theory, decl: &Decl) -> bool
     } else {
         theory.is_whole()
     }
+}
+
+/// Whether the clause of a function may follow. The one error is want of memory.
+fn asks_fun_clause(
+    alloc: Global,
+    theory: &Theory,
+    args: &[Term],
+    body: &Out,
+) -> Result<bool, NoMemory>
+    ensures { IfOk result (λ b. IsTrue b ↔ MayFunClause (theory.now).decls args.now body.now) }
+{
+    may_fun_clause(alloc, theory.symbols(), theory.decls(), args, body)
+}
+
+/// Whether the clause of a relation may follow. The one error is want of memory.
+fn asks_rel_clause(
+    alloc: Global,
+    theory: &Theory,
+    args: &[Term],
+    body: &Form,
+) -> Result<bool, NoMemory>
+    ensures { IfOk result (λ b. IsTrue b ↔ MayRelClause (theory.now).decls args.now body.now) }
+{
+    may_rel_clause(alloc, theory.symbols(), theory.decls(), args, body)
 }
 
 /// Whether what the declaration asks besides is there. The one error is want of memory.
@@ -39,20 +64,8 @@ fn asks(alloc: Global, theory: &Theory, decl: &Decl) -> Result<bool, NoMemory>
         }
         Decl::Fun { name, args, .. } => Ok(asks_head(theory, name.as_str(), args.as_slice())),
         Decl::Rel { name, args } => Ok(asks_head(theory, name.as_str(), args.as_slice())),
-        Decl::FunClause { args, body } => may_fun_clause(
-            alloc,
-            theory.symbols(),
-            theory.decls(),
-            args.as_slice(),
-            body,
-        ),
-        Decl::RelClause { args, body } => may_rel_clause(
-            alloc,
-            theory.symbols(),
-            theory.decls(),
-            args.as_slice(),
-            body,
-        ),
+        Decl::FunClause { args, body } => asks_fun_clause(alloc, theory, args.as_slice(), body),
+        Decl::RelClause { args, body } => asks_rel_clause(alloc, theory, args.as_slice(), body),
         Decl::Order {
             name,
             args,

@@ -1,10 +1,9 @@
 // Monotonicity rows: whether one fits the symbols, and whether it may follow other declarations.
 ghost use Rattle.std.specs.Prelude.{◌≡◌, ◌↔◌, ◌-◌, ◌≤◌, [], ◌∷◌, All, IsTrue, Some, MatchOption, slice_get};
 ghost use Rattle.syn_form.specs.Sorts as sorts;
-ghost use Rattle.syn_model.specs.Tables.{mono_in, monos_of};
+ghost use Rattle.syn_model.specs.Tables.{monos_of};
 ghost use Rattle.syn_model.specs.Declaring.{GivesFor, IsMono, IsRelationOn, MayMono};
 
-use crate::decl::Decl;
 use crate::naming::is_new_name;
 use crate::theory::Theory;
 use syn_form::Mono;
@@ -85,38 +84,16 @@ pub(crate) fn is_mono(syms: &Symbols, mono: &Mono) -> bool
     }
 }
 
-// Whether the two rows are not of one relation, symbol and place.
-fn is_other(other: &Mono, mono: &Mono) -> bool
-    ensures { IsTrue result ↔ ((other.now.rel ≡ mono.now.rel) × (other.now.sym ≡ mono.now.sym) × (other.now.place ≡ mono.now.place) → ⊥) }
-{
-    other.rel != mono.rel || other.sym != mono.sym || other.place != mono.place
-}
-
-fn is_apart(decl: &Decl, mono: &Mono) -> bool
-    ensures { IsTrue result ↔ All (λ o. (o.rel ≡ mono.now.rel) × (o.sym ≡ mono.now.sym) × (o.place ≡ mono.now.place) → ⊥) (mono_in decl.now) }
-{
-    match decl {
-        Decl::Monotone { mono: other, .. } => is_other(other, mono),
-        _ => true,
-    }
-}
-
-fn are_apart(decls: &[Decl], mono: &Mono) -> bool
-    ensures { IsTrue result ↔ All (λ decl. All (λ o. (o.rel ≡ mono.now.rel) × (o.sym ≡ mono.now.sym) × (o.place ≡ mono.now.place) → ⊥) (mono_in decl)) decls.now }
-{
-    decls.iter().all(|decl| is_apart(decl, mono))
-}
-
 // Whether no row is of the same relation, symbol and place.
-fn is_new_row(decls: &[Decl], mono: &Mono) -> bool
-    ensures { IsTrue result ↔ All (λ o. (o.rel ≡ mono.now.rel) × (o.sym ≡ mono.now.sym) × (o.place ≡ mono.now.place) → ⊥) (monos_of decls.now) }
+fn is_new_row(theory: &Theory, mono: &Mono) -> bool
+    ensures { IsTrue result ↔ All (λ o. (o.rel ≡ mono.now.rel) × (o.sym ≡ mono.now.sym) × (o.place ≡ mono.now.place) → ⊥) (monos_of (theory.now).decls) }
 {
-    are_apart(decls, mono)
+    !theory.has_like(mono)
 }
 
 /// Whether the row may follow the declarations, with this name.
 pub(crate) fn may_mono(theory: &Theory, name: &str, mono: &Mono) -> bool
     ensures { IsTrue result ↔ MayMono (theory.now).decls name.now mono.now }
 {
-    is_new_name(theory, name) && is_mono(theory.symbols(), mono) && is_new_row(theory.decls(), mono)
+    is_new_name(theory, name) && is_mono(theory.symbols(), mono) && is_new_row(theory, mono)
 }

@@ -108,10 +108,21 @@ fn begun(
             parts: Items::new(alloc),
         }),
         Err(error) => {
+            drop(name);
+            drop(output);
             drop(head);
             Err(error)
         }
     }
+}
+
+/// The two texts once more.
+fn texts_again(first: &Text, second: &Text) -> Result<(Text, Text), NoMemory>
+    ensures { IfOk result (λ texts. (texts.0 ≡ first.now) × (texts.1 ≡ second.now)) }
+{
+    let first = first.again()?;
+    let second = second.again()?;
+    Ok((first, second))
 }
 
 impl Spec {
@@ -141,12 +152,24 @@ impl Spec {
     pub fn copy(&self) -> Result<Spec, NoMemory>
         ensures { IfOk result (λ s. s ≡ self.now) }
     {
-        let name = self.name.again()?;
-        let output = self.output.again()?;
         let head = self.head.again(self.alloc)?;
-        let parts = parts_again(self.alloc, self.parts.as_slice())?;
-        match self.table.copy(self.alloc) {
-            Ok(table) => Ok(Spec {
+        let parts = match parts_again(self.alloc, self.parts.as_slice()) {
+            Ok(parts) => parts,
+            Err(error) => {
+                drop(head);
+                return Err(error);
+            }
+        };
+        let table = match self.table.copy(self.alloc) {
+            Ok(table) => table,
+            Err(error) => {
+                drop(head);
+                drop(parts);
+                return Err(error);
+            }
+        };
+        match texts_again(&self.name, &self.output) {
+            Ok((name, output)) => Ok(Spec {
                 alloc: self.alloc,
                 name,
                 head,
@@ -157,6 +180,7 @@ impl Spec {
             Err(error) => {
                 drop(head);
                 drop(parts);
+                drop(table);
                 Err(error)
             }
         }

@@ -1,5 +1,6 @@
 // The parts of a specification, one for each line of its text behind the second.
 ghost use Rattle.std.specs.Prelude.{◌≡◌, [], IfOk, OnOk};
+ghost use Rattle.syn_model.specs.declared.spec_part.SpecPart.TheVariants as part;
 
 use sqlite_items::Items;
 use std::alloc::Global;
@@ -45,19 +46,47 @@ fn texts_again(alloc: Global, texts: &[Text]) -> Result<Items<Text>, NoMemory>
     }
 }
 
+fn requires_again(f: &Form) -> Result<SpecPart, NoMemory>
+    ensures { IfOk result (λ p. p ≡ part.Requires f.now) }
+{
+    Ok(SpecPart::Requires(f.again()?))
+}
+
+fn ensures_again(f: &QForm) -> Result<SpecPart, NoMemory>
+    ensures { IfOk result (λ p. p ≡ part.Ensures f.now) }
+{
+    Ok(SpecPart::Ensures(f.again()?))
+}
+
+fn order_again(name: &Text) -> Result<SpecPart, NoMemory>
+    ensures { IfOk result (λ p. p ≡ part.Order name.now) }
+{
+    Ok(SpecPart::Order(name.again()?))
+}
+
+fn primitive_again(alloc: Global, names: &[Text]) -> Result<SpecPart, NoMemory>
+    ensures { IfOk result (λ p. p ≡ part.Primitive names.now) }
+{
+    Ok(SpecPart::Primitive(texts_again(alloc, names)?))
+}
+
+fn taken_again(alloc: Global, names: &[Text]) -> Result<SpecPart, NoMemory>
+    ensures { IfOk result (λ p. p ≡ part.Taken names.now) }
+{
+    Ok(SpecPart::Taken(texts_again(alloc, names)?))
+}
+
 impl SpecPart {
     /// The same part once more. Its trees are shared; names are copied.
     pub fn again(&self, alloc: Global) -> Result<SpecPart, NoMemory>
         ensures { IfOk result (λ p. p ≡ self.now) }
     {
         match self {
-            SpecPart::Requires(f) => Ok(SpecPart::Requires(f.again()?)),
-            SpecPart::Ensures(f) => Ok(SpecPart::Ensures(f.again()?)),
-            SpecPart::Order(name) => Ok(SpecPart::Order(name.again()?)),
-            SpecPart::Primitive(names) => {
-                Ok(SpecPart::Primitive(texts_again(alloc, names.as_slice())?))
-            }
-            SpecPart::Taken(names) => Ok(SpecPart::Taken(texts_again(alloc, names.as_slice())?)),
+            SpecPart::Requires(f) => requires_again(f),
+            SpecPart::Ensures(f) => ensures_again(f),
+            SpecPart::Order(name) => order_again(name),
+            SpecPart::Primitive(names) => primitive_again(alloc, names.as_slice()),
+            SpecPart::Taken(names) => taken_again(alloc, names.as_slice()),
         }
     }
 }

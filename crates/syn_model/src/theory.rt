@@ -1,24 +1,29 @@
 // A theory: its declarations, and the table of symbols that they make.
-ghost use Rattle.std.specs.Prelude.{◌≡◌, ◌↔◌, ◌++◌, [], ◌∷◌, Bool, Contains, Err, IfOk, IsTrue, OnErr, OnOk};
+ghost use Rattle.std.specs.Prelude.{◌≡◌, ◌↔◌, ◌++◌, [], ◌∷◌, Bool, Contains, Err, IfOk, IsTrue, OnErr, OnOk, map};
+ghost use Rattle.std.specs.Option.{option_copied};
 ghost use Rattle.syn_term.specs.Names.{IsName};
-ghost use Rattle.syn_term.specs.Symbols.{MayAdd, with_symbol};
-ghost use Rattle.syn_term.specs.DeclaredSorts.{MayAddList, MayAddTuple, with_list, with_tuple};
 ghost use Rattle.syn_form.specs.Writing.{CanWriteTable};
 ghost use Rattle.syn_model.specs.Declaring.{Asks, ComesInTime, IsTheory, MayDeclare, is_clause};
 ghost use Rattle.syn_model.specs.Headings as headings;
+ghost use Rattle.syn_model.specs.Heads.{IsNewName};
 ghost use Rattle.syn_model.specs.Theories.{MayBring, Steps, bare_theory, with_decl};
-ghost use Rattle.syn_model.specs.Tables.{axiom_names, fun_symbol, order_symbol, other_names, rel_symbol, table_after, table_of};
+ghost use Rattle.syn_model.specs.Tables.{IsDeclared, axiom_names, monos_of, other_names, table_of};
+ghost use Rattle.syn_model.specs.inner.Indexing.{IsNewIn, row_key};
+ghost use Rattle.syn_model.specs.inner.Keeping.{Settles};
 ghost use Rattle.syn_model.specs.declared.theory.DeclError.TheVariants as error;
 
+use crate::bringing::settle;
 use crate::copying::decls_again;
 use crate::decl::Decl;
-use crate::headings::is_whole;
+use crate::headings::{heading_of, is_whole};
+use crate::index::{Index, indexed};
 use crate::may_follow::may_follow;
-use crate::naming::{names_axiom, names_other};
+use crate::naming::{is_declared, is_new_name};
 use sqlite_items::Items;
 use std::alloc::Global;
 use std::marker::Model;
-use syn_term::{Kind, NoMemory, Sort, Sym, Symbols, Text, is_name};
+use syn_form::Mono;
+use syn_term::{NoMemory, Symbols, Text, is_name};
 
 /// Why a theory or a declaration was refused.
 #[derive(Clone, Copy, Debug, PartialEq, Eq)]
@@ -46,6 +51,7 @@ pub struct Theory {
     alloc: Global,
     name: Text,
     syms: Symbols,
+    index: Index,
     decls: Items<Decl>,
 }
 
@@ -61,123 +67,22 @@ impl Model for Theory {
 
     ghost view = { λ t. record { name = t.name; decls = t.decls } };
 
-    ghost invariant = { λ t. HoldsTheory t.name t.syms t.decls };
-}
-
-// Adds the symbol. Whether it may be added is the answer.
-fn add_symbol(syms: &mut Symbols, sym: Sym) -> Result<bool, NoMemory>
-    ensures added { IfOk result (Steps syms.old syms.new (with_symbol syms.old sym) (MayAdd syms.old sym)) }
-    ensures err { OnErr result (syms.new ≡ syms.old) }
-{
-    match syms.add(sym)? {
-        None => Ok(false),
-        Some(_) => Ok(true),
-    }
-}
-
-// Declares the list sort. Whether it may be declared is the answer.
-fn add_list(
-    syms: &mut Symbols,
-    name: &str,
-    nil: &str,
-    cons: &str,
-    item: Sort,
-) -> Result<bool, NoMemory>
-    ensures added { IfOk result (Steps syms.old syms.new (with_list syms.old name.now nil.now cons.now item) (MayAddList syms.old name.now nil.now cons.now item)) }
-    ensures err { OnErr result (syms.new ≡ syms.old) }
-{
-    match syms.add_list(name, nil, cons, item)? {
-        None => Ok(false),
-        Some(_) => Ok(true),
-    }
-}
-
-// Declares the tuple sort. Whether it may be declared is the answer.
-fn add_tuple(syms: &mut Symbols, name: &str, make: &str, parts: &[Sort]) -> Result<bool, NoMemory>
-    ensures added { IfOk result (Steps syms.old syms.new (with_tuple syms.old name.now make.now parts.now) (MayAddTuple syms.old name.now make.now parts.now)) }
-    ensures err { OnErr result (syms.new ≡ syms.old) }
-{
-    match syms.add_tuple(name, make, parts)? {
-        None => Ok(false),
-        Some(_) => Ok(true),
-    }
-}
-
-fn fun_sym(alloc: Global, name: &str, args: &[Sort], value: Sort) -> Result<Sym, NoMemory>
-    ensures { IfOk result (λ sym. sym ≡ fun_symbol name.now args.now value) }
-{
-    Ok(Sym {
-        name: Text::from_str(alloc, name)?,
-        kind: Kind::Fun,
-        args: Items::from_slice(alloc, args)?,
-        result: Some(value),
-    })
-}
-
-fn rel_sym(alloc: Global, name: &str, args: &[Sort]) -> Result<Sym, NoMemory>
-    ensures { IfOk result (λ sym. sym ≡ rel_symbol name.now args.now) }
-{
-    Ok(Sym {
-        name: Text::from_str(alloc, name)?,
-        kind: Kind::Rel,
-        args: Items::from_slice(alloc, args)?,
-        result: None,
-    })
-}
-
-fn order_sym(alloc: Global, name: &str, args: &[Sort]) -> Result<Sym, NoMemory>
-    ensures { IfOk result (λ sym. sym ≡ order_symbol name.now args.now) }
-{
-    let mut both = Items::from_slice(alloc, args)?;
-    both.append(Items::from_slice(alloc, args)?)?;
-    Ok(Sym {
-        name: Text::from_str(alloc, name)?,
-        kind: Kind::Order,
-        args: both,
-        result: None,
-    })
-}
-
-// Adds to the table what the declaration brings. Whether it may be added is the answer.
-fn bring(alloc: Global, syms: &mut Symbols, decl: &Decl) -> Result<bool, NoMemory>
-    ensures added { IfOk result (Steps syms.old syms.new (table_after syms.old decl.now) (MayBring syms.old decl.now)) }
-    ensures err { OnErr result (syms.new ≡ syms.old) }
-{
-    match decl {
-        Decl::ListSort {
-            name,
-            nil,
-            cons,
-            item,
-        } => add_list(syms, name.as_str(), nil.as_str(), cons.as_str(), *item),
-        Decl::TupleSort { name, make, parts } => {
-            add_tuple(syms, name.as_str(), make.as_str(), parts.as_slice())
-        }
-        Decl::Fun {
-            name,
-            args,
-            result: value,
-        } => add_symbol(
-            syms,
-            fun_sym(alloc, name.as_str(), args.as_slice(), *value)?,
-        ),
-        Decl::Rel { name, args } => {
-            add_symbol(syms, rel_sym(alloc, name.as_str(), args.as_slice())?)
-        }
-        Decl::Order { name, args, .. } => {
-            add_symbol(syms, order_sym(alloc, name.as_str(), args.as_slice())?)
-        }
-        _ => Ok(true),
-    }
+    ghost invariant = { λ t. HoldsTheory t.name t.syms t.index t.decls };
 }
 
 // The same for the last of the declarations.
-fn bring_last(alloc: Global, syms: &mut Symbols, decls: &[Decl]) -> Result<bool, NoMemory>
-    ensures added { (ds : _) (d : Decl) → decls.now ≡ ds ++ d ∷ [] → IfOk result (Steps syms.old syms.new (table_after syms.old d) (MayBring syms.old d)) }
-    ensures err { OnErr result (syms.new ≡ syms.old) }
+fn settle_last(
+    alloc: Global,
+    syms: &mut Symbols,
+    index: &mut Index,
+    decls: &[Decl],
+) -> Result<bool, NoMemory>
+    requires { (ds : _) (d : Decl) → decls.now ≡ ds ++ d ∷ [] → IsNewIn index.old d }
+    ensures settled { (ds : _) (d : Decl) → decls.now ≡ ds ++ d ∷ [] → IfOk result (Settles syms.old syms.new index.old index.new d) }
+    ensures err { OnErr result ((syms.new ≡ syms.old) × (index.new ≡ index.old)) }
 {
     match decls {
-        [.., decl] => bring(alloc, syms, decl),
+        [.., decl] => settle(alloc, syms, index, decl),
         [] => Ok(true),
     }
 }
@@ -205,6 +110,7 @@ impl Theory {
             alloc,
             name,
             syms: Symbols::new(alloc)?,
+            index: Index::new(alloc),
             decls: Items::new(alloc),
         })
     }
@@ -215,13 +121,22 @@ impl Theory {
     {
         let name = self.name.again()?;
         let syms = self.syms.copy(self.alloc)?;
-        let decls = decls_again(self.alloc, self.decls.as_slice())?;
-        Ok(Theory {
-            alloc: self.alloc,
-            name,
-            syms,
-            decls,
-        })
+        let index = indexed(self.alloc, self.decls.as_slice())?;
+        match decls_again(self.alloc, self.decls.as_slice()) {
+            Ok(decls) => Ok(Theory {
+                alloc: self.alloc,
+                name,
+                syms,
+                index,
+                decls,
+            }),
+            Err(error) => {
+                drop(name);
+                drop(syms);
+                drop(index);
+                Err(error)
+            }
+        }
     }
 
     /// The name of the theory, which is a name.
@@ -252,14 +167,42 @@ impl Theory {
     pub(crate) fn has_other(&self, name: &str) -> bool
         ensures { IsTrue result ↔ Contains (other_names (self.now).decls) name.now }
     {
-        names_other(self.decls.as_slice(), name)
+        self.index.has_axiom(name) || self.index.has_row(name)
     }
 
     /// Whether an axiom has the name.
     pub(crate) fn has_axiom(&self, name: &str) -> bool
         ensures { IsTrue result ↔ Contains (axiom_names (self.now).decls) name.now }
     {
-        names_axiom(self.decls.as_slice(), name)
+        self.index.has_axiom(name)
+    }
+
+    /// Whether a monotonicity row is of the same relation, symbol and place.
+    pub(crate) fn has_like(&self, mono: &Mono) -> bool
+        ensures { IsTrue result ↔ Contains (map row_key (monos_of (self.now).decls)) (row_key mono.now) }
+    {
+        self.index.has_like(mono)
+    }
+
+    /// The declaration to which a clause would belong: the last one that is no clause.
+    pub fn last_heading(&self) -> Option<&Decl>
+        ensures { option_copied result ≡ (headings.heading_of (self.now).decls).declared }
+    {
+        heading_of(self.decls.as_slice()).declared
+    }
+
+    /// Whether the text is a name that nothing declared has.
+    pub fn is_new(&self, name: &str) -> bool
+        ensures { IsTrue result ↔ IsNewName (self.now).decls name.now }
+    {
+        is_new_name(self, name)
+    }
+
+    /// Whether something that is declared has the text as its name.
+    pub fn declares(&self, text: &str) -> bool
+        ensures { IsTrue result ↔ IsDeclared (self.now).decls text.now }
+    {
+        is_declared(self, text)
     }
 
     /// Whether no clause of the function or relation declared last is missing.
@@ -310,7 +253,12 @@ impl Theory {
         ensures err { OnErr result (self.new ≡ self.old) }
     {
         self.decls.push(decl)?;
-        match bring_last(self.alloc, &mut self.syms, self.decls.as_slice()) {
+        match settle_last(
+            self.alloc,
+            &mut self.syms,
+            &mut self.index,
+            self.decls.as_slice(),
+        ) {
             Ok(true) => Ok(true),
             Ok(false) => {
                 drop_last(&mut self.decls);

@@ -5,6 +5,7 @@ mod FormComplete
 mod FormSound
 mod FormRuns
 pub mod MarkTable
+pub mod MarkFronts
 pub mod TokenTexts
 pub mod TokenLists
 mod DigitRuns
@@ -14,6 +15,7 @@ mod OutSound
 pub mod TermShapes
 mod ItemTexts
 pub mod Feeding
+pub mod LoneMarks
 mod Commas
 mod PhraseSound
 mod ItemSound
@@ -26,5 +28,8 @@ mod ItemsWritten
 mod ReadingsWritten
 mod Passed
 pub mod Gives
+pub mod PhrasesFed
+pub mod WordsRead
+pub mod LastPass
 pub mod Parses
 pub mod TextParses

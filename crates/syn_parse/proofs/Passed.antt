@@ -1,4 +1,4 @@
--- The passes that a text takes are those over all its items: that items go on one by one makes no difference.
+-- The passes that words take are those over all their items: that phrases and items go on one by one makes no difference.
 use Rattle.std.proofs.Common.{◌≡◌, List, Option, None, Some, option_and_then, refl}
 use Rattle.syn_form.specs.declared.syntax.Lexeme.{Lexeme}
 use Rattle.syn_form.specs.declared.syntax.TermSyntax.{TermSyntax}

@@ -1,18 +1,13 @@
 -- A text stands for what its words stand for.
-use Rattle.std.proofs.Common.{◌≡◌, ℕ, List, Option, None, Some, All, sym, subst}
+use Rattle.std.proofs.Common.{◌≡◌, ℕ, List, All, sym, subst}
 use Rattle.syn_term.specs.Tokens.{Word, Spelled}
 use Rattle.syn_term.proofs.OneSpelling.{one_spelling}
 use Rattle.syn_lex.specs.Lexing.{IsTokenWord}
 use Rattle.syn_lex.proofs.NotSpelled.{spelled_tokens}
 use Rattle.syn_form.specs.Texts.{IsTextOf}
-use Rattle.syn_parse.specs.Parsing.{IsFormSyntaxOf, IsFormSyntaxOfWords, IsOutSyntaxOf, IsOutSyntaxOfWords, IsTermSyntaxOf, IsTermSyntaxOfWords, OneSyntax, Parses}
-use Rattle.syn_parse.proofs.Parses.{one_form_syntax, one_out_syntax, one_term_syntax}
+use Rattle.syn_parse.specs.Parsing.{OneSyntax}
 
 module _ {S : Type 0} (Is : List Word → S → Type 0) (text : List ℕ) where
-  pub text_parses : (ws : List Word) → Spelled text ws → (o : Option S) → Parses (Is ws) o → Parses (IsTextOf Is text) o
-  text_parses ws spelled None h = λ s k. h s (subst (λ (z : List Word). Is z s) (one_spelling text k.words ws k.spelled spelled) k.stands)
-  text_parses ws spelled (Some s) h = record { words = ws; spelled = spelled; stands = h }
-
   -- a text that is made of no words stands for nothing
   pub none_spelled : (line : List ℕ) → line ≡ text → ((ws : List Word) → ¬ (Spelled line ws)) → (s : S) → IsTextOf Is text s → ⊥
   none_spelled line same none s k = none k.words (subst (λ (z : List ℕ). Spelled z k.words) (sym same) k.spelled)
@@ -21,12 +16,3 @@ module _ {S : Type 0} (Is : List Word → S → Type 0) (text : List ℕ) where
   one_text one s t k l =
       let same : k.words ≡ l.words = one_spelling text k.words l.words k.spelled l.spelled in
       one l.words (spelled_tokens text l.words l.spelled) s t (subst (λ (z : List Word). Is z s) same k.stands) l.stands
-
-pub one_term_text : (text : List ℕ) → OneSyntax (IsTermSyntaxOf text)
-one_term_text text = one_text IsTermSyntaxOfWords text one_term_syntax
-
-pub one_form_text : (text : List ℕ) → OneSyntax (IsFormSyntaxOf text)
-one_form_text text = one_text IsFormSyntaxOfWords text one_form_syntax
-
-pub one_out_text : (text : List ℕ) → OneSyntax (IsOutSyntaxOf text)
-one_out_text text = one_text IsOutSyntaxOfWords text one_out_syntax

@@ -1,5 +1,5 @@
--- The lexemes of words: one more, and none where one word is no lexeme.
-use Rattle.std.proofs.Common.{◌≡◌, ℕ, zero, suc, ◌+◌, ◌<◌, ◌≤◌, List, [], ◌∷◌, ◌++◌, Option, None, Some, MatchOption, length, map, take, get_or, slice_get, sym, ◌∙◌, ap, subst, arith}
+-- The lexemes of words: at a place, one more, and none where one word is no lexeme.
+use Rattle.std.proofs.Common.{◌≡◌, ℕ, ◌+◌, ◌<◌, ◌≤◌, List, [], ◌∷◌, ◌++◌, Option, None, Some, MatchOption, length, map, take, get_or, slice_get, sym, ◌∙◌, ap, subst, arith}
 use Rattle.std.proofs.lemmas.List.{map_push, get_or-map, length-map, take_all, take_more}
 use Rattle.std.proofs.lemmas.List.Elements.{All-push}
 use Rattle.std.proofs.lemmas.Option.{get_or_from_slice_get, slice_get_within}
@@ -11,12 +11,13 @@ use Rattle.syn_form.specs.Grammar.{spelling}
 use Rattle.syn_parse.specs.Lexemes.{IsCanonical, IsWrittenBy}
 use Rattle.syn_parse.specs.inner.Spelling.{NoLexeme, Spells}
 
--- what an answer says
-pub answer_none : (w : Word) (o : Option Lexeme) → o ≡ None → MatchOption o (NoLexeme w) (Spells w) → NoLexeme w
-answer_none w o e h = subst (λ (z : Option Lexeme). MatchOption z (NoLexeme w) (Spells w)) e h
-
-pub answer_some : (w : Word) (o : Option Lexeme) (l : Lexeme) → o ≡ Some l → MatchOption o (NoLexeme w) (Spells w) → Spells w l
-answer_some w o l e h = subst (λ (z : Option Lexeme). MatchOption z (NoLexeme w) (Spells w)) e h
+-- what is told at a place
+pub lexeme_there : (ws : List Word) (k : ℕ) (w : Word) → slice_get ws k ≡ Some w → (o : Option Lexeme) → MatchOption o (NoLexeme w) (Spells w) → MatchOption o ((v : Word) → slice_get ws k ≡ Some v → NoLexeme v) (λ l. (v : Word) × (slice_get ws k ≡ Some v) × Spells v l)
+lexeme_there ws k w there None none = λ v e. let same : w ≡ v = first (sym there ∙ e) in subst NoLexeme same none
+  where
+    first : {v : Word} → Some w ≡ Some v → w ≡ v
+    first e = cc
+lexeme_there ws k w there (Some l) h = (w, there, h)
 
 pub written_more : (ws : List Word) (k : ℕ) (w : Word) (ls : List Lexeme) (l : Lexeme) → slice_get ws k ≡ Some w → IsWrittenBy (take k ws) ls → Spells w l → IsWrittenBy (take (k + 1) ws) (ls ++ l ∷ [])
 written_more ws k w ls l at before here =
@@ -34,10 +35,8 @@ written_none ws k w at none ls s =
     sym (get_or-map spelling ls k x (spelling x) within) ∙ (ap (λ (zs : List Word). get_or zs k (spelling x)) (sym s.1) ∙ get_or_from_slice_get ws k w (spelling x) at) in
     none (get_or ls k x) (s.0 k x within) here
 
-pub written_all : (ws : List Word) (k : ℕ) (ls : List Lexeme) → slice_get ws k ≡ None → IsWrittenBy (take k ws) ls → IsWrittenBy ws ls
-written_all ws k ls past h = subst (λ (z : List Word). IsWrittenBy z ls) (take_all k ws (past_end ws k past)) h
-  where
-    past_end : (ws : List Word) (k : ℕ) → slice_get ws k ≡ None → length ws ≤ k
-    past_end [] k e = omega arith
-    past_end (w ∷ ws) zero e = absurd (cc)
-    past_end (w ∷ ws) (suc k) e = omega (arith, past_end ws k e)
+pub written_all : (ws : List Word) (k : ℕ) (ls : List Lexeme) → length ws ≤ k → IsWrittenBy (take k ws) ls → IsWrittenBy ws ls
+written_all ws k ls past h = subst (λ (z : List Word). IsWrittenBy z ls) (take_all k ws past) h
+
+abbrev pub some_word : Word
+some_word = spelling (lexeme.Fixed mark.Open)

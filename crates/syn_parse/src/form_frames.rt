@@ -15,41 +15,41 @@ use syn_form::{BinderSyntax, FormSyntax, Quantifier};
 
 /// A formula with its height.
 #[derive(Drop)]
-pub(crate) struct Tall {
-    pub(crate) form: FormSyntax,
+pub(crate) struct Tall<'a> {
+    pub(crate) form: FormSyntax<'a>,
     pub(crate) height: u32,
 }
 
 /// The earlier members of a chain of `and` or of `or`, with the height of the highest.
 #[derive(Drop)]
-pub(crate) struct Members {
-    pub(crate) forms: Items<FormSyntax>,
+pub(crate) struct Members<'a> {
+    pub(crate) forms: Items<FormSyntax<'a>>,
     pub(crate) height: u32,
 }
 
 /// A quantifier with its binders, before a formula.
 #[derive(Drop)]
-pub(crate) struct Prefix {
+pub(crate) struct Prefix<'a> {
     pub(crate) quantifier: Quantifier,
-    pub(crate) binders: Items<BinderSyntax>,
+    pub(crate) binders: Items<BinderSyntax<'a>>,
 }
 
 /// What was read of a form before its next operand: the quantifiers at its start, what stands before
 /// `<->`, the left sides of `->`, the earlier members of the open chains of `or` and of `and`, and
 /// the number of `not`s.
 #[derive(Drop)]
-pub(crate) struct Frame {
-    pub(crate) prefixes: Items<Prefix>,
+pub(crate) struct Frame<'a> {
+    pub(crate) prefixes: Items<Prefix<'a>>,
     pub(crate) nots: u64,
-    pub(crate) ands: Members,
-    pub(crate) ors: Members,
-    pub(crate) lefts: Items<Tall>,
-    pub(crate) side: Option<Boxed<Tall>>,
+    pub(crate) ands: Members<'a>,
+    pub(crate) ors: Members<'a>,
+    pub(crate) lefts: Items<Tall<'a>>,
+    pub(crate) side: Option<Boxed<Tall<'a>>>,
 }
 
-impl Members {
+impl<'a> Members<'a> {
     /// No members.
-    pub(crate) fn new(alloc: Global) -> Members
+    pub(crate) fn new(alloc: Global) -> Members<'a>
         ensures { result ≡ machine.no_members }
     {
         Members {
@@ -59,8 +59,8 @@ impl Members {
     }
 
     /// One member more.
-    pub(crate) fn add(&mut self, u: Tall) -> Result<(), AllocError>
-        ensures { OnOk result (self.new ≡ machine.with_member self.old u) }
+    pub(crate) fn add(&mut self, u: Tall<'a>) -> Result<(), AllocError>
+        ensures { OnOk result (self.new ≡ machine.with_member self.old u.entry) }
     {
         let Tall { form, height } = u;
         self.forms.push(form)?;
@@ -69,9 +69,9 @@ impl Members {
     }
 }
 
-impl Frame {
+impl<'a> Frame<'a> {
     /// A frame of which nothing was read.
-    pub(crate) fn new(alloc: Global) -> Frame
+    pub(crate) fn new(alloc: Global) -> Frame<'a>
         ensures { result ≡ machine.fresh }
     {
         Frame {
@@ -87,7 +87,7 @@ impl Frame {
 
 /// Whether nothing but `not`s was read before the operand, so that the form is just the operand.
 #[tactic(auto, using(crate::proofs::FormFrames::bare_done))]
-fn is_bare(frame: &Frame) -> bool
+pub(crate) fn is_bare<'a>(frame: &Frame<'a>) -> bool
     ensures { IsTrue result → (u : Tall) → machine.form_done frame.now u ≡ Some u }
 {
     if !frame.prefixes.is_empty() {
@@ -106,8 +106,8 @@ fn is_bare(frame: &Frame) -> bool
 }
 
 /// A formula whose highest part has the height `below`, where it is not too high.
-fn built(form: FormSyntax, below: u32) -> Result<Tall, Stop>
-    ensures { Makes result (machine.built form below) }
+fn built<'a>(form: FormSyntax<'a>, below: u32) -> Result<Tall<'a>, Stop>
+    ensures { Makes result (machine.built form.entry below) }
 {
     if below < MAX_HEIGHT {
         let height = below + 1;
@@ -117,32 +117,32 @@ fn built(form: FormSyntax, below: u32) -> Result<Tall, Stop>
     Err(Stop::Misplaced)
 }
 
-fn not_of(alloc: Global, u: Tall) -> Result<Tall, Stop>
-    ensures { Makes result (machine.not_of u) }
+fn not_of<'a>(alloc: Global, u: Tall<'a>) -> Result<Tall<'a>, Stop>
+    ensures { Makes result (machine.not_of u.entry) }
 {
     let Tall { form, height } = u;
     let inner = Boxed::new(alloc, form)?;
     built(FormSyntax::Not(inner), height)
 }
 
-fn implies_of(alloc: Global, a: Tall, b: Tall) -> Result<Tall, Stop>
-    ensures { Makes result (machine.implies_of a b) }
+fn implies_of<'a>(alloc: Global, a: Tall<'a>, b: Tall<'a>) -> Result<Tall<'a>, Stop>
+    ensures { Makes result (machine.implies_of a.entry b.entry) }
 {
     let below = a.height.max(b.height);
     let (left, right) = boxes(alloc, a.form, b.form)?;
     built(FormSyntax::Implies(left, right), below)
 }
 
-fn both_of(alloc: Global, a: Tall, b: Tall) -> Result<Tall, Stop>
-    ensures { Makes result (machine.both_of a b) }
+fn both_of<'a>(alloc: Global, a: Tall<'a>, b: Tall<'a>) -> Result<Tall<'a>, Stop>
+    ensures { Makes result (machine.both_of a.entry b.entry) }
 {
     let below = a.height.max(b.height);
     let (left, right) = boxes(alloc, a.form, b.form)?;
     built(FormSyntax::BothWays(left, right), below)
 }
 
-fn quantified_of(alloc: Global, prefix: Prefix, u: Tall) -> Result<Tall, Stop>
-    ensures { Makes result (machine.quantified_of prefix u) }
+fn quantified_of<'a>(alloc: Global, prefix: Prefix<'a>, u: Tall<'a>) -> Result<Tall<'a>, Stop>
+    ensures { Makes result (machine.quantified_of prefix.entry u.entry) }
 {
     let Tall { form, height } = u;
     match Boxed::new(alloc, form) {
@@ -162,8 +162,8 @@ fn quantified_of(alloc: Global, prefix: Prefix, u: Tall) -> Result<Tall, Stop>
 
 /// The formula under so many `not`s.
 #[tactic(auto, using(crate::proofs::FormFrames::negated_next))]
-pub(crate) fn negated(alloc: Global, nots: u64, u: Tall) -> Result<Tall, Stop>
-    ensures { Makes result (machine.negated nots u) }
+pub(crate) fn negated<'a>(alloc: Global, nots: u64, u: Tall<'a>) -> Result<Tall<'a>, Stop>
+    ensures { Makes result (machine.negated nots u.entry) }
 {
     let mut last = u;
     for _ in 0..nots {
@@ -173,8 +173,8 @@ pub(crate) fn negated(alloc: Global, nots: u64, u: Tall) -> Result<Tall, Stop>
 }
 
 /// The chain of `and` with its last member; a formula alone is no chain.
-pub(crate) fn chain_and(ands: Members, u: Tall) -> Result<Tall, Stop>
-    ensures { Makes result (machine.chain_and ands u) }
+pub(crate) fn chain_and<'a>(ands: Members<'a>, u: Tall<'a>) -> Result<Tall<'a>, Stop>
+    ensures { Makes result (machine.chain_and ands.entry u.entry) }
 {
     if ands.forms.is_empty() {
         drop(ands);
@@ -185,8 +185,8 @@ pub(crate) fn chain_and(ands: Members, u: Tall) -> Result<Tall, Stop>
 }
 
 /// The chain of `or` with its last member; a formula alone is no chain.
-fn chain_or(ors: Members, u: Tall) -> Result<Tall, Stop>
-    ensures { Makes result (machine.chain_or ors u) }
+fn chain_or<'a>(ors: Members<'a>, u: Tall<'a>) -> Result<Tall<'a>, Stop>
+    ensures { Makes result (machine.chain_or ors.entry u.entry) }
 {
     if ors.forms.is_empty() {
         drop(ors);
@@ -196,8 +196,8 @@ fn chain_or(ors: Members, u: Tall) -> Result<Tall, Stop>
     built(FormSyntax::Or(forms), height)
 }
 
-fn with_member(members: Members, u: Tall) -> Result<Members, AllocError>
-    ensures { IfOk result (λ m. m ≡ machine.with_member members u) }
+fn with_member<'a>(members: Members<'a>, u: Tall<'a>) -> Result<Members<'a>, AllocError>
+    ensures { IfOk result (λ m. m ≡ machine.with_member members.entry u.entry) }
 {
     let mut members = members;
     match members.add(u) {
@@ -211,8 +211,8 @@ fn with_member(members: Members, u: Tall) -> Result<Members, AllocError>
 
 /// The chain of `->` with its last side, nested to the right.
 #[tactic(auto, using(crate::proofs::FormFrames::chain_imp_last))]
-fn chain_imp(alloc: Global, lefts: Items<Tall>, u: Tall) -> Result<Tall, Stop>
-    ensures { Makes result (machine.chain_imp lefts u) }
+fn chain_imp<'a>(alloc: Global, lefts: Items<Tall<'a>>, u: Tall<'a>) -> Result<Tall<'a>, Stop>
+    ensures { Makes result (machine.chain_imp lefts.entry u.entry) }
 {
     let (mut lefts, mut last) = (lefts, u);
     while let Some(left) = lefts.pop() {
@@ -227,8 +227,8 @@ fn chain_imp(alloc: Global, lefts: Items<Tall>, u: Tall) -> Result<Tall, Stop>
     Ok(last)
 }
 
-fn sided(alloc: Global, side: Option<Boxed<Tall>>, u: Tall) -> Result<Tall, Stop>
-    ensures { Makes result (machine.sided side u) }
+fn sided<'a>(alloc: Global, side: Option<Boxed<Tall<'a>>>, u: Tall<'a>) -> Result<Tall<'a>, Stop>
+    ensures { Makes result (machine.sided side.entry u.entry) }
 {
     match side {
         None => Ok(u),
@@ -238,8 +238,8 @@ fn sided(alloc: Global, side: Option<Boxed<Tall>>, u: Tall) -> Result<Tall, Stop
 
 /// The formula under the quantifiers, the first of them outermost.
 #[tactic(auto, using(crate::proofs::FormFrames::under_last))]
-fn under(alloc: Global, prefixes: Items<Prefix>, u: Tall) -> Result<Tall, Stop>
-    ensures { Makes result (machine.under prefixes u) }
+fn under<'a>(alloc: Global, prefixes: Items<Prefix<'a>>, u: Tall<'a>) -> Result<Tall<'a>, Stop>
+    ensures { Makes result (machine.under prefixes.entry u.entry) }
 {
     let (mut prefixes, mut last) = (prefixes, u);
     while let Some(inner) = prefixes.pop() {
@@ -255,8 +255,12 @@ fn under(alloc: Global, prefixes: Items<Prefix>, u: Tall) -> Result<Tall, Stop>
 }
 
 /// The open chains of `and` and of `or` with their last member.
-pub(crate) fn or_done(ands: Members, ors: Members, u: Tall) -> Result<Tall, Stop>
-    ensures { Makes result (machine.or_done ands ors u) }
+pub(crate) fn or_done<'a>(
+    ands: Members<'a>,
+    ors: Members<'a>,
+    u: Tall<'a>,
+) -> Result<Tall<'a>, Stop>
+    ensures { Makes result (machine.or_done ands.entry ors.entry u.entry) }
 {
     match chain_and(ands, u) {
         Ok(v) => chain_or(ors, v),
@@ -268,14 +272,14 @@ pub(crate) fn or_done(ands: Members, ors: Members, u: Tall) -> Result<Tall, Stop
 }
 
 /// The same with the left sides of `->`.
-pub(crate) fn imp_done(
+pub(crate) fn imp_done<'a>(
     alloc: Global,
-    ands: Members,
-    ors: Members,
-    lefts: Items<Tall>,
-    u: Tall,
-) -> Result<Tall, Stop>
-    ensures { Makes result (machine.imp_done ands ors lefts u) }
+    ands: Members<'a>,
+    ors: Members<'a>,
+    lefts: Items<Tall<'a>>,
+    u: Tall<'a>,
+) -> Result<Tall<'a>, Stop>
+    ensures { Makes result (machine.imp_done ands.entry ors.entry lefts.entry u.entry) }
 {
     match or_done(ands, ors, u) {
         Ok(v) => chain_imp(alloc, lefts, v),
@@ -287,15 +291,15 @@ pub(crate) fn imp_done(
 }
 
 /// The same with what stands before `<->`.
-fn sides_done(
+fn sides_done<'a>(
     alloc: Global,
-    ands: Members,
-    ors: Members,
-    lefts: Items<Tall>,
-    side: Option<Boxed<Tall>>,
-    u: Tall,
-) -> Result<Tall, Stop>
-    ensures { Makes result (machine.sides_done ands ors lefts side u) }
+    ands: Members<'a>,
+    ors: Members<'a>,
+    lefts: Items<Tall<'a>>,
+    side: Option<Boxed<Tall<'a>>>,
+    u: Tall<'a>,
+) -> Result<Tall<'a>, Stop>
+    ensures { Makes result (machine.sides_done ands.entry ors.entry lefts.entry side.entry u.entry) }
 {
     match imp_done(alloc, ands, ors, lefts, u) {
         Ok(v) => sided(alloc, side, v),
@@ -307,13 +311,9 @@ fn sides_done(
 }
 
 /// The whole form of a frame, whose last operand is `u`.
-pub(crate) fn form_done(alloc: Global, frame: Frame, u: Tall) -> Result<Tall, Stop>
-    ensures { Makes result (machine.form_done frame u) }
+pub(crate) fn form_done<'a>(alloc: Global, frame: Frame<'a>, u: Tall<'a>) -> Result<Tall<'a>, Stop>
+    ensures { Makes result (machine.form_done frame.entry u.entry) }
 {
-    if is_bare(&frame) {
-        drop(frame);
-        return Ok(u);
-    }
     let Frame {
         prefixes,
         nots: _,

@@ -4,10 +4,10 @@ ghost use Rattle.syn_parse.specs.inner.FormMachine as machine;
 ghost use Rattle.syn_parse.specs.inner.Leads.{Leads, Makes};
 
 use crate::form_frames::{
-    Frame, Members, Prefix, Tall, chain_and, form_done, imp_done, negated, or_done,
+    Frame, Members, Prefix, Tall, chain_and, form_done, imp_done, is_bare, negated, or_done,
 };
 use crate::items::Item;
-use crate::sink::ItemSink;
+use crate::sink::Sink;
 use crate::stack::Stack;
 use crate::stop::Stop;
 use sqlite_items::{Boxed, Items};
@@ -19,22 +19,22 @@ use syn_form::{BinderSyntax, FormSyntax, HeadName, Mark, Quantifier, TermSyntax}
 /// operand where one is there. `first` says that no operand nor `not` of the innermost form was
 /// read, so that a quantifier may come.
 #[derive(Drop)]
-pub(crate) struct FormReader {
-    frame: Frame,
-    outer: Stack<Frame>,
+pub(crate) struct FormReader<'a> {
+    frame: Frame<'a>,
+    outer: Stack<Frame<'a>>,
     first: bool,
-    last: Option<Tall>,
+    last: Option<Tall<'a>>,
 }
 
-fn leaf(form: FormSyntax) -> Tall
-    ensures { result ≡ machine.leaf form }
+fn leaf<'a>(form: FormSyntax<'a>) -> Tall<'a>
+    ensures { result ≡ machine.leaf form.entry }
 {
     Tall { form, height: 1 }
 }
 
 /// The atom that a term is where a formula is wanted.
-fn atom_of(t: TermSyntax) -> Result<FormSyntax, Stop>
-    ensures { Makes result (machine.atom_of t) }
+fn atom_of<'a>(t: TermSyntax<'a>) -> Result<FormSyntax<'a>, Stop>
+    ensures { Makes result (machine.atom_of t.entry) }
 {
     match t {
         TermSyntax::Applied(head, args) => match head {
@@ -52,9 +52,9 @@ fn atom_of(t: TermSyntax) -> Result<FormSyntax, Stop>
     }
 }
 
-impl FormReader {
+impl<'a> FormReader<'a> {
     /// A reader that has read nothing.
-    pub(crate) fn new(alloc: Global) -> FormReader
+    pub(crate) fn new(alloc: Global) -> FormReader<'a>
         ensures { result ≡ machine.start }
     {
         FormReader {
@@ -73,19 +73,30 @@ impl FormReader {
         drop(self.last.take());
     }
 
-    /// An operand comes: the pending `not`s are put round it.
-    fn got(&mut self, alloc: Global, u: Tall) -> Result<(), Stop>
-        ensures { Leads result self.new (machine.got self.old.frame self.old.outer u) }
+    /// The operand is there.
+    fn stand(&mut self, u: Tall<'a>)
+        ensures { self.new ≡ machine.has self.old.frame self.old.outer u.entry }
     {
+        self.first = false;
+        drop(self.last.replace(u));
+    }
+
+    /// An operand comes: the pending `not`s are put round it.
+    fn got(&mut self, alloc: Global, u: Tall<'a>) -> Result<(), Stop>
+        ensures { Leads result self.new (machine.got self.old.frame self.old.outer u.entry) }
+    {
+        if self.frame.nots == 0 {
+            self.stand(u);
+            return Ok(());
+        }
         let nots = mem::replace(&mut self.frame.nots, 0);
         let v = negated(alloc, nots, u)?;
-        self.first = false;
-        drop(self.last.replace(v));
+        self.stand(v);
         Ok(())
     }
 
-    fn term_first(&mut self, alloc: Global, t: TermSyntax) -> Result<(), Stop>
-        ensures { Leads result self.new (machine.term_next self.old.frame self.old.outer t) }
+    fn term_first(&mut self, alloc: Global, t: TermSyntax<'a>) -> Result<(), Stop>
+        ensures { Leads result self.new (machine.term_next self.old.frame self.old.outer t.entry) }
     {
         let atom = atom_of(t)?;
         self.got(alloc, leaf(atom))
@@ -94,9 +105,9 @@ impl FormReader {
     fn quantifier_first(
         &mut self,
         quantifier: Quantifier,
-        binders: Items<BinderSyntax>,
+        binders: Items<BinderSyntax<'a>>,
     ) -> Result<(), Stop>
-        ensures { Leads result self.new (machine.quantifier_next self.old.first self.old.frame self.old.outer quantifier binders) }
+        ensures { Leads result self.new (machine.quantifier_next self.old.first self.old.frame self.old.outer quantifier binders.entry) }
     {
         if !self.first {
             drop(binders);
@@ -147,8 +158,8 @@ impl FormReader {
     }
 
     /// The next item where an operand is wanted.
-    fn begun(&mut self, alloc: Global, item: Item) -> Result<(), Stop>
-        ensures { Leads result self.new (machine.begun self.old.first self.old.frame self.old.outer item) }
+    fn begun(&mut self, alloc: Global, item: Item<'a>) -> Result<(), Stop>
+        ensures { Leads result self.new (machine.begun self.old.first self.old.frame self.old.outer item.entry) }
     {
         match item {
             Item::Term(t) => self.term_first(alloc, t),
@@ -158,8 +169,8 @@ impl FormReader {
         }
     }
 
-    fn and_next(&mut self, u: Tall) -> Result<(), Stop>
-        ensures { Leads result self.new (Some (machine.and_next self.old.frame self.old.outer u)) }
+    fn and_next(&mut self, u: Tall<'a>) -> Result<(), Stop>
+        ensures { Leads result self.new (Some (machine.and_next self.old.frame self.old.outer u.entry)) }
     {
         self.frame.ands.add(u)?;
         self.frame.nots = 0;
@@ -167,8 +178,8 @@ impl FormReader {
         Ok(())
     }
 
-    fn or_next(&mut self, alloc: Global, u: Tall) -> Result<(), Stop>
-        ensures { Leads result self.new (machine.or_next self.old.frame self.old.outer u) }
+    fn or_next(&mut self, alloc: Global, u: Tall<'a>) -> Result<(), Stop>
+        ensures { Leads result self.new (machine.or_next self.old.frame self.old.outer u.entry) }
     {
         let ands = mem::replace(&mut self.frame.ands, Members::new(alloc));
         let v = chain_and(ands, u)?;
@@ -178,8 +189,8 @@ impl FormReader {
         Ok(())
     }
 
-    fn arrow_next(&mut self, alloc: Global, u: Tall) -> Result<(), Stop>
-        ensures { Leads result self.new (machine.arrow_next self.old.frame self.old.outer u) }
+    fn arrow_next(&mut self, alloc: Global, u: Tall<'a>) -> Result<(), Stop>
+        ensures { Leads result self.new (machine.arrow_next self.old.frame self.old.outer u.entry) }
     {
         let ands = mem::replace(&mut self.frame.ands, Members::new(alloc));
         let ors = mem::replace(&mut self.frame.ors, Members::new(alloc));
@@ -191,8 +202,8 @@ impl FormReader {
     }
 
     /// `<->` stands at most once in a form.
-    fn both_next(&mut self, alloc: Global, u: Tall) -> Result<(), Stop>
-        ensures { Leads result self.new (machine.both_next self.old.frame self.old.outer u) }
+    fn both_next(&mut self, alloc: Global, u: Tall<'a>) -> Result<(), Stop>
+        ensures { Leads result self.new (machine.both_next self.old.frame self.old.outer u.entry) }
     {
         if self.frame.side.is_some() {
             drop(u);
@@ -210,12 +221,16 @@ impl FormReader {
     }
 
     /// A bracket closes the form of its frame, which is an operand of the frame around it.
-    fn close(&mut self, alloc: Global, u: Tall) -> Result<(), Stop>
-        ensures { Leads result self.new (machine.close_next self.old.frame self.old.outer u) }
+    fn close(&mut self, alloc: Global, u: Tall<'a>) -> Result<(), Stop>
+        ensures { Leads result self.new (machine.close_next self.old.frame self.old.outer u.entry) }
     {
         match self.outer.pop() {
             Some(around) => {
                 let frame = mem::replace(&mut self.frame, around);
+                if is_bare(&frame) {
+                    drop(frame);
+                    return self.got(alloc, u);
+                }
                 let v = form_done(alloc, frame, u)?;
                 self.got(alloc, v)
             }
@@ -227,8 +242,8 @@ impl FormReader {
     }
 
     /// A mark after the operand `u`.
-    fn mark_after(&mut self, alloc: Global, u: Tall, mark: Mark) -> Result<(), Stop>
-        ensures { Leads result self.new (machine.mark_after self.old.frame self.old.outer u mark) }
+    fn mark_after(&mut self, alloc: Global, u: Tall<'a>, mark: Mark) -> Result<(), Stop>
+        ensures { Leads result self.new (machine.mark_after self.old.frame self.old.outer u.entry mark) }
     {
         match mark {
             Mark::And => self.and_next(u),
@@ -244,8 +259,8 @@ impl FormReader {
     }
 
     /// The next item after the operand `u`.
-    fn went_on(&mut self, alloc: Global, u: Tall, item: Item) -> Result<(), Stop>
-        ensures { Leads result self.new (machine.went_on self.old.frame self.old.outer u item) }
+    fn went_on(&mut self, alloc: Global, u: Tall<'a>, item: Item<'a>) -> Result<(), Stop>
+        ensures { Leads result self.new (machine.went_on self.old.frame self.old.outer u.entry item.entry) }
     {
         match item {
             Item::Fixed(mark) => self.mark_after(alloc, u, mark),
@@ -259,7 +274,7 @@ impl FormReader {
 
     /// The formula that was read, with its height, where all brackets are closed and no operand is
     /// missing.
-    pub(crate) fn finish(&mut self, alloc: Global) -> Result<Tall, Stop>
+    pub(crate) fn finish(&mut self, alloc: Global) -> Result<Tall<'a>, Stop>
         ensures { Makes result (machine.finished self.old) }
     {
         let Some(u) = self.last.take() else {
@@ -279,7 +294,7 @@ impl FormReader {
     }
 
     /// The same without its height.
-    pub(crate) fn end(&mut self, alloc: Global) -> Result<FormSyntax, Stop>
+    pub(crate) fn end(&mut self, alloc: Global) -> Result<FormSyntax<'a>, Stop>
         ensures { Makes result (machine.ended self.old) }
     {
         let whole = self.finish(alloc)?;
@@ -287,10 +302,10 @@ impl FormReader {
     }
 }
 
-impl ItemSink for FormReader {
+impl<'a> Sink<Item<'a>> for FormReader<'a> {
     ghost takes = { machine.step };
 
-    fn take(&mut self, alloc: Global, item: Item) -> Result<(), Stop> {
+    fn take(&mut self, alloc: Global, item: Item<'a>) -> Result<(), Stop> {
         match self.last.take() {
             None => self.begun(alloc, item),
             Some(u) => self.went_on(alloc, u, item),

@@ -1,8 +1,10 @@
 // The second pass puts terms and equalities together. A name is a term by itself until a bracket
 // opens behind it; so the reader never looks ahead.
-ghost use Rattle.std.specs.Prelude.{◌≡◌, List, [], ◌∷◌, IfOk, OnOk};
+ghost use Rattle.std.specs.Prelude.{◌≡◌, List, [], ◌∷◌, IsTrue, IfOk, OnOk};
+ghost use Rattle.syn_form.specs.declared.syntax.Lexeme.TheVariants as lexeme;
 ghost use Rattle.syn_form.specs.declared.syntax.Mark.TheVariants as mark;
 ghost use Rattle.syn_parse.specs.declared.phrase_reader.Phrase.{Phrase};
+ghost use Rattle.syn_parse.specs.declared.phrase_reader.Phrase.TheVariants as phrase;
 ghost use Rattle.syn_parse.specs.inner.Feeding.{Keeps, fed, feed};
 ghost use Rattle.syn_parse.specs.inner.ItemMachine as machine;
 ghost use Rattle.syn_parse.specs.inner.Leads.{Leads, Makes};
@@ -10,8 +12,8 @@ ghost use Rattle.syn_parse.specs.inner.Leads.{Leads, Makes};
 use crate::items::Item;
 use crate::limits::MAX_OPEN;
 use crate::phrase_reader::Phrase;
-use crate::sink::ItemSink;
-use crate::stack::{Row, Stack, first};
+use crate::sink::Sink;
+use crate::stack::{Stack, boxes, first};
 use crate::stop::Stop;
 use sqlite_items::Items;
 use std::alloc::{AllocError, Global};
@@ -19,25 +21,25 @@ use syn_form::{BinderSyntax, HeadName, Lexeme, Mark, Quantifier, TermSyntax};
 
 /// A head whose bracket is open, and its arguments before the last.
 #[derive(Drop)]
-pub(crate) struct Call {
-    pub(crate) head: HeadName,
-    pub(crate) args: Items<TermSyntax>,
+pub(crate) struct Call<'a> {
+    pub(crate) head: HeadName<'a>,
+    pub(crate) args: Items<TermSyntax<'a>>,
 }
 
 /// What was read so far: the items before the last, the left side of an equality whose sign was
 /// read, the open calls with their number, and the last term where it may still become a head.
 #[derive(Drop)]
-pub(crate) struct ItemReader {
-    pub(crate) items: Items<Item>,
-    pub(crate) left: Option<TermSyntax>,
-    pub(crate) calls: Stack<Call>,
+pub(crate) struct ItemReader<'a> {
+    pub(crate) items: Items<Item<'a>>,
+    pub(crate) left: Option<TermSyntax<'a>>,
+    pub(crate) calls: Stack<Call<'a>>,
     pub(crate) count: u32,
-    pub(crate) last: Option<TermSyntax>,
+    pub(crate) last: Option<TermSyntax<'a>>,
 }
 
 /// The head that a term by itself is.
-fn head_of(term: TermSyntax) -> Result<HeadName, Stop>
-    ensures { Makes result (machine.head_of term) }
+fn head_of<'a>(term: TermSyntax<'a>) -> Result<HeadName<'a>, Stop>
+    ensures { Makes result (machine.head_of term.entry) }
 {
     match term {
         TermSyntax::Alone(head) => Ok(head),
@@ -49,25 +51,32 @@ fn head_of(term: TermSyntax) -> Result<HeadName, Stop>
 }
 
 /// The item that a term ends: itself, or an equality.
-fn item_of(left: Option<TermSyntax>, term: TermSyntax) -> Item
-    ensures { result ≡ machine.item_of left term }
+fn item_of<'a>(
+    alloc: Global,
+    left: Option<TermSyntax<'a>>,
+    term: TermSyntax<'a>,
+) -> Result<Item<'a>, AllocError>
+    ensures { IfOk result (λ item. item ≡ machine.item_of left.entry term.entry) }
 {
     match left {
-        None => Item::Term(term),
-        Some(left) => Item::Equal(left, term),
+        None => Ok(Item::Term(term)),
+        Some(left) => {
+            let (left, right) = boxes(alloc, left, term)?;
+            Ok(Item::Equal(left, right))
+        }
     }
 }
 
-fn with_arg(call: Call, term: TermSyntax) -> Result<Call, AllocError>
-    ensures { IfOk result (λ c. c ≡ machine.with_arg call term) }
+fn with_arg<'a>(call: Call<'a>, term: TermSyntax<'a>) -> Result<Call<'a>, AllocError>
+    ensures { IfOk result (λ c. c ≡ machine.with_arg call.entry term.entry) }
 {
     let Call { head, mut args } = call;
     args.push(term)?;
     Ok(Call { head, args })
 }
 
-impl ItemReader {
-    pub(crate) fn new(alloc: Global) -> ItemReader
+impl<'a> ItemReader<'a> {
+    pub(crate) fn new(alloc: Global) -> ItemReader<'a>
         ensures { result ≡ machine.start }
     {
         ItemReader {
@@ -80,8 +89,8 @@ impl ItemReader {
     }
 
     /// A term comes, where none is there yet.
-    fn place(&mut self, term: TermSyntax) -> Result<(), Stop>
-        ensures { Leads result self.new (machine.placed self.old term) }
+    fn place(&mut self, term: TermSyntax<'a>) -> Result<(), Stop>
+        ensures { Leads result self.new (machine.placed self.old term.entry) }
     {
         match self.last.replace(term) {
             None => Ok(()),
@@ -93,12 +102,12 @@ impl ItemReader {
     }
 
     /// The last term, or the equality that it ends, becomes an item.
-    fn flush(&mut self) -> Result<(), Stop>
+    fn flush(&mut self, alloc: Global) -> Result<(), Stop>
         ensures { Leads result self.new (machine.flush self.old) }
     {
         match self.last.take() {
             Some(term) => {
-                let item = item_of(self.left.take(), term);
+                let item = item_of(alloc, self.left.take(), term)?;
                 self.items.push(item)?;
                 Ok(())
             }
@@ -110,10 +119,10 @@ impl ItemReader {
     }
 
     /// An item that ends the term before it.
-    fn put(&mut self, item: Item) -> Result<(), Stop>
-        ensures { Leads result self.new (machine.with_item self.old item) }
+    fn put(&mut self, alloc: Global, item: Item<'a>) -> Result<(), Stop>
+        ensures { Leads result self.new (machine.with_item self.old item.entry) }
     {
-        match self.flush() {
+        match self.flush(alloc) {
             Ok(()) => {
                 self.items.push(item)?;
                 Ok(())
@@ -126,8 +135,8 @@ impl ItemReader {
     }
 
     /// A bracket opens behind the term, which is a head then.
-    fn open_call(&mut self, alloc: Global, term: TermSyntax) -> Result<(), Stop>
-        ensures { Leads result self.new (machine.opened self.old term) }
+    fn open_call(&mut self, alloc: Global, term: TermSyntax<'a>) -> Result<(), Stop>
+        ensures { Leads result self.new (machine.opened self.old term.entry) }
     {
         if self.count >= MAX_OPEN {
             drop(term);
@@ -145,7 +154,7 @@ impl ItemReader {
         ensures { Leads result self.new (machine.open_outside self.old) }
     {
         match self.last.take() {
-            None => self.put(Item::Fixed(Mark::Open)),
+            None => self.put(alloc, Item::Fixed(Mark::Open)),
             Some(term) => self.open_call(alloc, term),
         }
     }
@@ -173,13 +182,18 @@ impl ItemReader {
         match mark {
             Mark::Open => self.open_outside(alloc),
             Mark::Equals => self.equals(),
-            _ => self.put(Item::Fixed(mark)),
+            _ => self.put(alloc, Item::Fixed(mark)),
         }
     }
 
     /// A bracket opens behind the argument of a call, which is a head then.
-    fn open_within(&mut self, alloc: Global, call: Call, term: TermSyntax) -> Result<(), Stop>
-        ensures { Leads result self.new (machine.inside self.old call term mark.Open) }
+    fn open_within(
+        &mut self,
+        alloc: Global,
+        call: Call<'a>,
+        term: TermSyntax<'a>,
+    ) -> Result<(), Stop>
+        ensures { Leads result self.new (machine.inside self.old call.entry term.entry mark.Open) }
     {
         match self.calls.push(call) {
             Ok(()) => self.open_call(alloc, term),
@@ -191,8 +205,8 @@ impl ItemReader {
     }
 
     /// The bracket of the call closes behind its last argument.
-    fn close_call(&mut self, call: Call, term: TermSyntax) -> Result<(), Stop>
-        ensures { Leads result self.new (machine.inside self.old call term mark.Close) }
+    fn close_call(&mut self, call: Call<'a>, term: TermSyntax<'a>) -> Result<(), Stop>
+        ensures { Leads result self.new (machine.inside self.old call.entry term.entry mark.Close) }
     {
         let Call { head, args } = with_arg(call, term)?;
         self.count = self.count.saturating_sub(1);
@@ -204,11 +218,11 @@ impl ItemReader {
     fn mark_inside(
         &mut self,
         alloc: Global,
-        call: Call,
-        term: TermSyntax,
+        call: Call<'a>,
+        term: TermSyntax<'a>,
         mark: Mark,
     ) -> Result<(), Stop>
-        ensures { Leads result self.new (machine.inside self.old call term mark) }
+        ensures { Leads result self.new (machine.inside self.old call.entry term.entry mark) }
     {
         match mark {
             Mark::Open => self.open_within(alloc, call, term),
@@ -229,6 +243,9 @@ impl ItemReader {
     fn mark_next(&mut self, alloc: Global, mark: Mark) -> Result<(), Stop>
         ensures { Leads result self.new (machine.mark_next self.old mark) }
     {
+        if self.calls.is_empty() {
+            return self.mark_outside(alloc, mark);
+        }
         let Some(call) = self.calls.pop() else {
             return self.mark_outside(alloc, mark);
         };
@@ -241,8 +258,8 @@ impl ItemReader {
         }
     }
 
-    fn word_next(&mut self, alloc: Global, lexeme: Lexeme) -> Result<(), Stop>
-        ensures { Leads result self.new (machine.word_next self.old lexeme) }
+    fn word_next(&mut self, alloc: Global, lexeme: Lexeme<'a>) -> Result<(), Stop>
+        ensures { Leads result self.new (machine.word_next self.old lexeme.entry) }
     {
         match lexeme {
             Lexeme::Number(k) => self.place(TermSyntax::Number(k)),
@@ -256,13 +273,14 @@ impl ItemReader {
     /// A quantifier comes; inside a call there is none.
     fn quantifier_next(
         &mut self,
+        alloc: Global,
         quantifier: Quantifier,
-        binders: Items<BinderSyntax>,
+        binders: Items<BinderSyntax<'a>>,
     ) -> Result<(), Stop>
-        ensures { Leads result self.new (machine.quantifier_next self.old quantifier binders) }
+        ensures { Leads result self.new (machine.quantifier_next self.old quantifier binders.entry) }
     {
         match self.calls.pop() {
-            None => self.put(Item::Quantifier(quantifier, binders)),
+            None => self.put(alloc, Item::Quantifier(quantifier, binders)),
             Some(call) => {
                 drop(call);
                 drop(binders);
@@ -272,21 +290,23 @@ impl ItemReader {
     }
 
     /// The reader one phrase further.
-    fn step(&mut self, alloc: Global, phrase: Phrase) -> Result<(), Stop>
-        ensures { Leads result self.new (machine.step self.old phrase) }
+    fn step(&mut self, alloc: Global, phrase: Phrase<'a>) -> Result<(), Stop>
+        ensures { Leads result self.new (machine.step self.old phrase.entry) }
     {
         match phrase {
             Phrase::Word(lexeme) => self.word_next(alloc, lexeme),
-            Phrase::Quantifier(quantifier, binders) => self.quantifier_next(quantifier, binders),
+            Phrase::Quantifier(quantifier, binders) => {
+                self.quantifier_next(alloc, quantifier, binders)
+            }
         }
     }
 
     /// The end, where no call is open: the last term becomes an item.
-    fn finish(&mut self) -> Result<(), Stop>
+    fn finish(&mut self, alloc: Global) -> Result<(), Stop>
         ensures { Leads result self.new (machine.finished self.old) }
     {
         match self.calls.pop() {
-            None => self.flush(),
+            None => self.flush(alloc),
             Some(call) => {
                 drop(call);
                 Err(Stop::Misplaced)
@@ -294,40 +314,74 @@ impl ItemReader {
         }
     }
 
-    /// One phrase, and the items that are whole then go to the sink.
-    fn pass<S: ItemSink>(&mut self, alloc: Global, phrase: Phrase, sink: &mut S) -> Result<(), Stop>
-        ensures { (more : List Phrase) → Keeps result (fed S.takes sink.old self.old (phrase ∷ more)) (fed S.takes sink.new self.new more) }
+    /// Whether nothing waits in the reader and the mark is an item by itself.
+    #[tactic(auto, using(crate::proofs::LoneMarks::lone_mark))]
+    fn is_lone(&self, mark: Mark) -> bool
+        ensures { IsTrue result → machine.IsLone self.now mark }
     {
-        self.step(alloc, phrase)?;
+        if !self.items.is_empty() || !self.calls.is_empty() {
+            return false;
+        }
+        if self.last.is_some() || self.left.is_some() {
+            return false;
+        }
+        mark != Mark::Equals
+    }
+
+    /// A mark, and the items that are whole then go to the sink.
+    fn pass_mark<S: Sink<Item<'a>>>(
+        &mut self,
+        alloc: Global,
+        mark: Mark,
+        sink: &mut S,
+    ) -> Result<(), Stop>
+        ensures { (more : List Phrase) → Keeps result (fed S.takes sink.old self.old (phrase.Word (lexeme.Fixed mark) ∷ more)) (fed S.takes sink.new self.new more) }
+    {
+        if self.is_lone(mark) {
+            let item: Item<'a> = Item::Fixed(mark);
+            return sink.take(alloc, item);
+        }
+        self.mark_next(alloc, mark)?;
         pass_on(alloc, &mut self.items, sink)
+    }
+
+    /// One phrase, and the items that are whole then go to the sink.
+    pub(crate) fn pass<S: Sink<Item<'a>>>(
+        &mut self,
+        alloc: Global,
+        phrase: Phrase<'a>,
+        sink: &mut S,
+    ) -> Result<(), Stop>
+        ensures { (more : List Phrase) → Keeps result (fed S.takes sink.old self.old (phrase.entry ∷ more)) (fed S.takes sink.new self.new more) }
+    {
+        match phrase {
+            Phrase::Word(Lexeme::Fixed(mark)) => self.pass_mark(alloc, mark, sink),
+            other => {
+                self.step(alloc, other)?;
+                pass_on(alloc, &mut self.items, sink)
+            }
+        }
     }
 
     /// The end, and the items that are left go to the sink.
-    fn pass_last<S: ItemSink>(&mut self, alloc: Global, sink: &mut S) -> Result<(), Stop>
-        ensures { Leads result sink.new (fed S.takes sink.old self.old []) }
-    {
-        self.finish()?;
-        pass_on(alloc, &mut self.items, sink)
-    }
-
-    /// All phrases and the end.
-    fn pass_all<S: ItemSink>(
+    pub(crate) fn pass_last<S: Sink<Item<'a>>>(
         &mut self,
         alloc: Global,
-        phrases: &mut Stack<Phrase>,
         sink: &mut S,
     ) -> Result<(), Stop>
-        ensures { Leads result sink.new (fed S.takes sink.old self.old phrases.old) }
+        ensures { Leads result sink.new (fed S.takes sink.old self.old []) }
     {
-        while let Some(phrase) = phrases.pop() {
-            self.pass(alloc, phrase, sink)?;
-        }
-        self.pass_last(alloc, sink)
+        self.finish(alloc)?;
+        pass_on(alloc, &mut self.items, sink)
     }
 }
 
 /// The items go to the sink.
-fn pass_on<S: ItemSink>(alloc: Global, items: &mut Items<Item>, sink: &mut S) -> Result<(), Stop>
+fn pass_on<'a, S: Sink<Item<'a>>>(
+    alloc: Global,
+    items: &mut Items<Item<'a>>,
+    sink: &mut S,
+) -> Result<(), Stop>
     ensures fed { Leads result sink.new (feed S.takes items.old sink.old) }
     ensures rest { OnOk result (items.new ≡ []) }
 {
@@ -335,20 +389,4 @@ fn pass_on<S: ItemSink>(alloc: Global, items: &mut Items<Item>, sink: &mut S) ->
         sink.take(alloc, item)?;
     }
     Ok(())
-}
-
-/// The items of a text go from its phrases to the sink.
-pub(crate) fn feed_items<S: ItemSink>(
-    alloc: Global,
-    phrases: Row<Phrase>,
-    sink: &mut S,
-) -> Result<(), Stop>
-    ensures { Leads result sink.new (fed S.takes sink.old machine.start phrases) }
-{
-    let mut rest = phrases.into_stack();
-    let mut reader = ItemReader::new(alloc);
-    let read = reader.pass_all(alloc, &mut rest, sink);
-    drop(reader);
-    drop(rest);
-    read
 }

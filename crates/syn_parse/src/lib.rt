@@ -1,5 +1,5 @@
-//! The syntax of expressions: words of a line, or a text, as the syntax tree of a term, a formula or an
-//! output. What the names in it stand for is not looked at.
+//! The syntax of expressions: words of a line as the syntax tree of a term, a formula or an output. What the
+//! names in it stand for is not looked at.
 #![tactic(auto)]
 
 mod form_frames;
@@ -17,7 +17,6 @@ mod stack;
 mod stop;
 mod syntaxes;
 mod term_reader;
+mod words_reader;
 
-pub use parse::{
-    parse_form, parse_form_words, parse_out, parse_out_words, parse_term, parse_term_words,
-};
+pub use parse::{parse_form_words, parse_out_words, parse_term_words};

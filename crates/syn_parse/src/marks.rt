@@ -1,33 +1,11 @@
-// The marks, told by their words.
+// The marks, told by their words: the first two bytes leave one that a word may be.
 ghost use Rattle.std.specs.Prelude.{◌≡◌, ◌↔◌, IsTrue, MatchOption};
 ghost use Rattle.syn_form.specs.Grammar.{mark_word};
 ghost use Rattle.syn_lex.specs.Lexing.{word};
-ghost use Rattle.syn_parse.specs.inner.Spelling.{NoMark};
+ghost use Rattle.syn_parse.specs.inner.Spelling.{NoMark, candidate};
 
 use syn_form::Mark;
-use syn_term::TokenKind;
-
-const MARKS: [Mark; 19] = [
-    Mark::Open,
-    Mark::Close,
-    Mark::Comma,
-    Mark::Colon,
-    Mark::Dot,
-    Mark::Equals,
-    Mark::Arrow,
-    Mark::BothWays,
-    Mark::Not,
-    Mark::And,
-    Mark::Or,
-    Mark::If,
-    Mark::Then,
-    Mark::Else,
-    Mark::True,
-    Mark::False,
-    Mark::ForAll,
-    Mark::ForSome,
-    Mark::Nat,
-];
+use syn_lex::{TokenKind, byte_at};
 
 fn text_of(mark: Mark) -> &'static [u8]
     ensures { result.now ≡ (mark_word mark).bytes }
@@ -81,14 +59,50 @@ fn is_spelled(mark: Mark, kind: TokenKind, bytes: &[u8]) -> bool
     text_of(mark) == bytes
 }
 
+/// The one mark that a token whose bytes begin so may be; of no meaning where it is none.
+fn candidate(first: u8, second: u8) -> Mark
+    ensures { result ≡ candidate first second }
+{
+    match first {
+        b'(' => Mark::Open,
+        b')' => Mark::Close,
+        b',' => Mark::Comma,
+        b':' => Mark::Colon,
+        b'.' => Mark::Dot,
+        b'=' => Mark::Equals,
+        b'-' => Mark::Arrow,
+        b'<' => Mark::BothWays,
+        b'o' => Mark::Or,
+        b'i' => Mark::If,
+        b'e' => Mark::Else,
+        b'f' => Mark::False,
+        b's' => Mark::ForSome,
+        b'a' => {
+            if second == b'n' {
+                Mark::And
+            } else {
+                Mark::ForAll
+            }
+        }
+        b't' => {
+            if second == b'h' {
+                Mark::Then
+            } else {
+                Mark::True
+            }
+        }
+        _ => { if second == b'o' { Mark::Not } else { Mark::Nat } }
+    }
+}
+
 /// The mark that is the token of this kind with these bytes, None where no mark is.
 pub(crate) fn mark_of(kind: TokenKind, bytes: &[u8]) -> Option<Mark>
     ensures { MatchOption result (NoMark (word kind bytes.now)) (λ m. mark_word m ≡ word kind bytes.now) }
 {
-    for mark in &MARKS {
-        if is_spelled(*mark, kind, bytes) {
-            return Some(*mark);
-        }
+    let mark = candidate(byte_at(bytes, 0), byte_at(bytes, 1));
+    if is_spelled(mark, kind, bytes) {
+        Some(mark)
+    } else {
+        None
     }
-    None
 }

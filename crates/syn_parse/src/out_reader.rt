@@ -1,5 +1,5 @@
 // An output is read from its items by a machine over a stack of the choices that are open. The items
-// of a test go to the reader of formulas.
+// of a test go to the reader of formulas, which stays in its place.
 ghost use Rattle.std.specs.Prelude.{◌≡◌};
 ghost use Rattle.syn_parse.specs.inner.Leads.{Leads, Makes};
 ghost use Rattle.syn_parse.specs.inner.OutMachine as machine;
@@ -8,7 +8,7 @@ use crate::form_frames::Tall;
 use crate::form_reader::FormReader;
 use crate::items::Item;
 use crate::limits::MAX_HEIGHT;
-use crate::sink::ItemSink;
+use crate::sink::Sink;
 use crate::stack::{Stack, boxes};
 use crate::stop::Stop;
 use std::alloc::Global;
@@ -17,37 +17,37 @@ use syn_form::{Mark, OutSyntax, TermSyntax};
 
 /// An output with its height.
 #[derive(Drop)]
-struct TallOut {
-    out: OutSyntax,
+struct TallOut<'a> {
+    out: OutSyntax<'a>,
     height: u32,
 }
 
 /// A choice with an arm that is being read: the first, after the test, or the second, after the test
 /// and the first.
 #[derive(Drop)]
-enum Arm {
-    Then(Tall),
-    Else(Tall, TallOut),
+enum Arm<'a> {
+    Then(Tall<'a>),
+    Else(Tall<'a>, TallOut<'a>),
 }
 
 /// Where the reader stands: an output is wanted, a test is being read, or an output is there.
 #[derive(Drop)]
-enum OutStage {
+enum OutStage<'a> {
     Wanted,
-    Test(FormReader),
-    Here(TallOut),
+    Test(FormReader<'a>),
+    Here(TallOut<'a>),
 }
 
 /// What was read so far: the choices that are open, the innermost on top.
 #[derive(Drop)]
-pub(crate) struct OutReader {
-    arms: Stack<Arm>,
-    stage: OutStage,
+pub(crate) struct OutReader<'a> {
+    arms: Stack<Arm<'a>>,
+    stage: OutStage<'a>,
 }
 
 /// An output whose highest part has the height `below`, where it is not too high.
-fn built(out: OutSyntax, below: u32) -> Result<TallOut, Stop>
-    ensures { Makes result (machine.built out below) }
+fn built<'a>(out: OutSyntax<'a>, below: u32) -> Result<TallOut<'a>, Stop>
+    ensures { Makes result (machine.built out.entry below) }
 {
     if below < MAX_HEIGHT {
         let height = below + 1;
@@ -57,8 +57,13 @@ fn built(out: OutSyntax, below: u32) -> Result<TallOut, Stop>
     Err(Stop::Misplaced)
 }
 
-fn choice_of(alloc: Global, test: Tall, a: TallOut, b: TallOut) -> Result<TallOut, Stop>
-    ensures { Makes result (machine.choice_of test a b) }
+fn choice_of<'a>(
+    alloc: Global,
+    test: Tall<'a>,
+    a: TallOut<'a>,
+    b: TallOut<'a>,
+) -> Result<TallOut<'a>, Stop>
+    ensures { Makes result (machine.choice_of test.entry a.entry b.entry) }
 {
     let below = test.height.max(a.height.max(b.height));
     match boxes(alloc, a.out, b.out) {
@@ -70,8 +75,8 @@ fn choice_of(alloc: Global, test: Tall, a: TallOut, b: TallOut) -> Result<TallOu
     }
 }
 
-fn given(t: TermSyntax) -> TallOut
-    ensures { result ≡ machine.given t }
+fn given<'a>(t: TermSyntax<'a>) -> TallOut<'a>
+    ensures { result ≡ machine.given t.entry }
 {
     TallOut {
         out: OutSyntax::Give(t),
@@ -79,8 +84,8 @@ fn given(t: TermSyntax) -> TallOut
     }
 }
 
-impl OutReader {
-    pub(crate) fn new(alloc: Global) -> OutReader
+impl<'a> OutReader<'a> {
+    pub(crate) fn new(alloc: Global) -> OutReader<'a>
         ensures { result ≡ machine.start }
     {
         OutReader {
@@ -89,15 +94,15 @@ impl OutReader {
         }
     }
 
-    fn stand(&mut self, stage: OutStage)
-        ensures { self.new ≡ machine.stands self.old.arms stage }
+    fn stand(&mut self, stage: OutStage<'a>)
+        ensures { self.new ≡ machine.stands self.old.arms stage.entry }
     {
         drop(mem::replace(&mut self.stage, stage));
     }
 
     /// An output comes: it ends each choice on top that waits for its second arm.
-    fn came(&mut self, alloc: Global, u: TallOut) -> Result<(), Stop>
-        ensures { Leads result self.new (machine.came self.old.arms u) }
+    fn came(&mut self, alloc: Global, u: TallOut<'a>) -> Result<(), Stop>
+        ensures { Leads result self.new (machine.came self.old.arms u.entry) }
     {
         let mut last = u;
         while let Some(arm) = self.arms.pop() {
@@ -111,8 +116,8 @@ impl OutReader {
     }
 
     /// An output comes as the first arm of a choice with this test.
-    fn came_first(&mut self, test: Tall, u: TallOut) -> Result<(), Stop>
-        ensures { Leads result self.new (Some (machine.came_first self.old.arms test u)) }
+    fn came_first(&mut self, test: Tall<'a>, u: TallOut<'a>) -> Result<(), Stop>
+        ensures { Leads result self.new (Some (machine.came_first self.old.arms test.entry u.entry)) }
     {
         match self.arms.push(Arm::Then(test)) {
             Ok(()) => {
@@ -140,8 +145,8 @@ impl OutReader {
     }
 
     /// The next item where an output is wanted.
-    fn begun(&mut self, alloc: Global, item: Item) -> Result<(), Stop>
-        ensures { Leads result self.new (machine.begun self.old.arms item) }
+    fn begun(&mut self, alloc: Global, item: Item<'a>) -> Result<(), Stop>
+        ensures { Leads result self.new (machine.begun self.old.arms item.entry) }
     {
         match item {
             Item::Term(t) => self.came(alloc, given(t)),
@@ -154,46 +159,17 @@ impl OutReader {
     }
 
     /// `then` ends the test.
-    fn then_next(&mut self, alloc: Global, test: FormReader) -> Result<(), Stop>
-        ensures { Leads result self.new (machine.then_next self.old.arms test) }
+    fn then_next(&mut self, test: Tall<'a>) -> Result<(), Stop>
+        ensures { Leads result self.new (Some (machine.with_test self.old.arms test.entry)) }
     {
-        let mut test = test;
-        let whole = test.finish(alloc);
-        drop(test);
-        self.arms.push(Arm::Then(whole?))?;
+        self.arms.push(Arm::Then(test))?;
         self.stand(OutStage::Wanted);
         Ok(())
     }
 
-    fn test_next(&mut self, alloc: Global, test: FormReader, item: Item) -> Result<(), Stop>
-        ensures { Leads result self.new (machine.test_next self.old.arms test item) }
-    {
-        let mut test = test;
-        match test.take(alloc, item) {
-            Ok(()) => {
-                self.stand(OutStage::Test(test));
-                Ok(())
-            }
-            other => {
-                drop(test);
-                other
-            }
-        }
-    }
-
-    /// The next item inside a test.
-    fn tested(&mut self, alloc: Global, test: FormReader, item: Item) -> Result<(), Stop>
-        ensures { Leads result self.new (machine.tested self.old.arms test item) }
-    {
-        match item {
-            Item::Fixed(Mark::Then) => self.then_next(alloc, test),
-            other => self.test_next(alloc, test, other),
-        }
-    }
-
     /// `else` after the first arm of a choice.
-    fn else_next(&mut self, u: TallOut) -> Result<(), Stop>
-        ensures { Leads result self.new (machine.else_next self.old.arms u) }
+    fn else_next(&mut self, u: TallOut<'a>) -> Result<(), Stop>
+        ensures { Leads result self.new (machine.else_next self.old.arms u.entry) }
     {
         match self.arms.pop() {
             Some(Arm::Then(test)) => {
@@ -210,8 +186,8 @@ impl OutReader {
     }
 
     /// The next item after the output `u`.
-    fn went_on(&mut self, u: TallOut, item: Item) -> Result<(), Stop>
-        ensures { Leads result self.new (machine.went_on self.old.arms u item) }
+    fn went_on(&mut self, u: TallOut<'a>, item: Item<'a>) -> Result<(), Stop>
+        ensures { Leads result self.new (machine.went_on self.old.arms u.entry item.entry) }
     {
         match item {
             Item::Fixed(Mark::Else) => self.else_next(u),
@@ -224,8 +200,8 @@ impl OutReader {
     }
 
     /// The output `u`, where no choice is open.
-    fn whole(&mut self, u: TallOut) -> Result<OutSyntax, Stop>
-        ensures { Makes result (machine.whole_with self.old.arms u) }
+    fn whole(&mut self, u: TallOut<'a>) -> Result<OutSyntax<'a>, Stop>
+        ensures { Makes result (machine.whole_with self.old.arms u.entry) }
     {
         match self.arms.pop() {
             None => Ok(u.out),
@@ -238,7 +214,7 @@ impl OutReader {
     }
 
     /// The output that was read, where no choice is open.
-    pub(crate) fn end(&mut self) -> Result<OutSyntax, Stop>
+    pub(crate) fn end(&mut self) -> Result<OutSyntax<'a>, Stop>
         ensures { Makes result (machine.ended self.old) }
     {
         match mem::replace(&mut self.stage, OutStage::Wanted) {
@@ -251,14 +227,27 @@ impl OutReader {
     }
 }
 
-impl ItemSink for OutReader {
+impl<'a> Sink<Item<'a>> for OutReader<'a> {
     ghost takes = { machine.step };
 
-    fn take(&mut self, alloc: Global, item: Item) -> Result<(), Stop> {
+    fn take(&mut self, alloc: Global, item: Item<'a>) -> Result<(), Stop> {
+        if let OutStage::Test(test) = &mut self.stage {
+            return match item {
+                Item::Fixed(Mark::Then) => {
+                    let whole = test.finish(alloc)?;
+                    self.then_next(whole)
+                }
+                other => test.take(alloc, other),
+            };
+        }
         match mem::replace(&mut self.stage, OutStage::Wanted) {
             OutStage::Wanted => self.begun(alloc, item),
-            OutStage::Test(test) => self.tested(alloc, test, item),
             OutStage::Here(u) => self.went_on(u, item),
+            other => {
+                drop(other);
+                drop(item);
+                Err(Stop::Misplaced)
+            }
         }
     }
 }

@@ -1,54 +1,51 @@
-// The first pass over the words of a text puts each quantifier with its binders together into one
+// The first pass over words puts each quantifier with its binders together into one
 // phrase; all other words stay as they are.
-ghost use Rattle.std.specs.Prelude.{◌≡◌, ◌++◌, [], ◌∷◌, Some, IfOk, OnOk};
+ghost use Rattle.std.specs.Prelude.{◌≡◌, ◌++◌, [], ◌∷◌, Some, IsTrue, IfOk, OnOk};
 ghost use Rattle.syn_parse.specs.inner.Leads.{Leads, Makes};
 ghost use Rattle.syn_parse.specs.inner.PhraseMachine as machine;
 
-use crate::stack::{Row, Stack};
 use crate::stop::Stop;
 use sqlite_items::Items;
 use std::alloc::{AllocError, Global};
-use std::mem;
-use syn_form::{BinderSyntax, Lexeme, Mark, Quantifier};
-use syn_term::Text;
+use syn_form::{BinderSyntax, Lexeme, Mark, NameText, Quantifier};
 
 /// A word, or a quantifier with its binders, from its word to its stop.
 #[derive(Drop)]
-pub(crate) enum Phrase {
-    Word(Lexeme),
-    Quantifier(Quantifier, Items<BinderSyntax>),
+pub(crate) enum Phrase<'a> {
+    Word(Lexeme<'a>),
+    Quantifier(Quantifier, Items<BinderSyntax<'a>>),
 }
 
 /// What comes next of a quantifier: a name, the colon behind it, a sort, or a comma or the stop.
 #[derive(Drop)]
-pub(crate) enum BinderStage {
+pub(crate) enum BinderStage<'a> {
     Name,
-    Colon(Text),
-    Sort(Text),
+    Colon(NameText<'a>),
+    Sort(NameText<'a>),
     Next,
 }
 
 /// A quantifier that isn't at its stop yet.
 #[derive(Drop)]
-pub(crate) struct Binding {
+pub(crate) struct Binding<'a> {
     pub(crate) quantifier: Quantifier,
-    pub(crate) binders: Items<BinderSyntax>,
-    pub(crate) stage: BinderStage,
+    pub(crate) binders: Items<BinderSyntax<'a>>,
+    pub(crate) stage: BinderStage<'a>,
 }
 
-/// The phrases so far, and the quantifier that is open.
+/// The phrases that are ready to go on, and the quantifier that is open.
 #[derive(Drop)]
-pub(crate) struct PhraseReader {
-    pub(crate) done: Row<Phrase>,
-    pub(crate) pending: Option<Binding>,
+pub(crate) struct PhraseReader<'a> {
+    pub(crate) done: Items<Phrase<'a>>,
+    pub(crate) pending: Option<Binding<'a>>,
 }
 
 /// The sort that a word is: `nat`, or a name.
-fn sort_of(alloc: Global, lexeme: Lexeme) -> Result<Text, Stop>
-    ensures { Makes result (machine.sort_of lexeme) }
+fn sort_of<'a>(lexeme: Lexeme<'a>) -> Result<NameText<'a>, Stop>
+    ensures { Makes result (machine.sort_of lexeme.entry) }
 {
     match lexeme {
-        Lexeme::Fixed(Mark::Nat) => Ok(Text::from_str(alloc, "nat")?),
+        Lexeme::Fixed(Mark::Nat) => Ok(NameText::new("nat")),
         Lexeme::Name(sort) => Ok(sort),
         other => {
             drop(other);
@@ -57,12 +54,12 @@ fn sort_of(alloc: Global, lexeme: Lexeme) -> Result<Text, Stop>
     }
 }
 
-fn with_binder(
-    binders: Items<BinderSyntax>,
-    name: Text,
-    sort: Text,
-) -> Result<Items<BinderSyntax>, AllocError>
-    ensures { IfOk result (λ more. more ≡ machine.with_binder binders name sort) }
+fn with_binder<'a>(
+    binders: Items<BinderSyntax<'a>>,
+    name: NameText<'a>,
+    sort: NameText<'a>,
+) -> Result<Items<BinderSyntax<'a>>, AllocError>
+    ensures { IfOk result (λ more. more ≡ machine.with_binder binders.entry name.entry sort.entry) }
 {
     let mut binders = binders;
     match binders.push(BinderSyntax { name, sort }) {
@@ -74,19 +71,19 @@ fn with_binder(
     }
 }
 
-impl PhraseReader {
-    fn new(alloc: Global) -> PhraseReader
+impl<'a> PhraseReader<'a> {
+    pub(crate) fn new(alloc: Global) -> PhraseReader<'a>
         ensures { result ≡ machine.closed [] }
     {
         PhraseReader {
-            done: Row::new(alloc),
+            done: Items::new(alloc),
             pending: None,
         }
     }
 
     /// A phrase is whole, and no quantifier is open.
-    fn put(&mut self, phrase: Phrase) -> Result<(), AllocError>
-        ensures { OnOk result (self.new ≡ machine.closed (self.old.done ++ phrase ∷ [])) }
+    fn put(&mut self, phrase: Phrase<'a>) -> Result<(), AllocError>
+        ensures { OnOk result (self.new ≡ machine.closed (self.old.done ++ phrase.entry ∷ [])) }
     {
         self.done.push(phrase)?;
         drop(self.pending.take());
@@ -94,8 +91,13 @@ impl PhraseReader {
     }
 
     /// The quantifier is open at this stage.
-    fn wait(&mut self, quantifier: Quantifier, binders: Items<BinderSyntax>, stage: BinderStage)
-        ensures { self.new ≡ machine.holds self.old.done quantifier binders stage }
+    fn wait(
+        &mut self,
+        quantifier: Quantifier,
+        binders: Items<BinderSyntax<'a>>,
+        stage: BinderStage<'a>,
+    )
+        ensures { self.new ≡ machine.holds self.old.done quantifier binders.entry stage.entry }
     {
         let binding = Binding {
             quantifier,
@@ -106,8 +108,8 @@ impl PhraseReader {
     }
 
     /// The next word outside of quantifiers.
-    fn outside(&mut self, alloc: Global, lexeme: Lexeme) -> Result<(), AllocError>
-        ensures { OnOk result (self.new ≡ machine.outside self.old.done lexeme) }
+    fn outside(&mut self, alloc: Global, lexeme: Lexeme<'a>) -> Result<(), AllocError>
+        ensures { OnOk result (self.new ≡ machine.outside self.old.done lexeme.entry) }
     {
         match lexeme {
             Lexeme::Fixed(Mark::ForAll) => {
@@ -125,10 +127,10 @@ impl PhraseReader {
     fn name_next(
         &mut self,
         quantifier: Quantifier,
-        binders: Items<BinderSyntax>,
-        lexeme: Lexeme,
+        binders: Items<BinderSyntax<'a>>,
+        lexeme: Lexeme<'a>,
     ) -> Result<(), Stop>
-        ensures { Leads result self.new (machine.name_next self.old.done quantifier binders lexeme) }
+        ensures { Leads result self.new (machine.name_next self.old.done quantifier binders.entry lexeme.entry) }
     {
         match lexeme {
             Lexeme::Name(x) => {
@@ -146,11 +148,11 @@ impl PhraseReader {
     fn colon_next(
         &mut self,
         quantifier: Quantifier,
-        binders: Items<BinderSyntax>,
-        name: Text,
-        lexeme: Lexeme,
+        binders: Items<BinderSyntax<'a>>,
+        name: NameText<'a>,
+        lexeme: Lexeme<'a>,
     ) -> Result<(), Stop>
-        ensures { Leads result self.new (machine.colon_next self.old.done quantifier binders name lexeme) }
+        ensures { Leads result self.new (machine.colon_next self.old.done quantifier binders.entry name.entry lexeme.entry) }
     {
         match lexeme {
             Lexeme::Fixed(Mark::Colon) => {
@@ -168,15 +170,14 @@ impl PhraseReader {
 
     fn sort_next(
         &mut self,
-        alloc: Global,
         quantifier: Quantifier,
-        binders: Items<BinderSyntax>,
-        name: Text,
-        lexeme: Lexeme,
+        binders: Items<BinderSyntax<'a>>,
+        name: NameText<'a>,
+        lexeme: Lexeme<'a>,
     ) -> Result<(), Stop>
-        ensures { Leads result self.new (machine.sort_next self.old.done quantifier binders name lexeme) }
+        ensures { Leads result self.new (machine.sort_next self.old.done quantifier binders.entry name.entry lexeme.entry) }
     {
-        match sort_of(alloc, lexeme) {
+        match sort_of(lexeme) {
             Ok(sort) => {
                 let more = with_binder(binders, name, sort)?;
                 self.wait(quantifier, more, BinderStage::Next);
@@ -193,10 +194,10 @@ impl PhraseReader {
     fn stop_next(
         &mut self,
         quantifier: Quantifier,
-        binders: Items<BinderSyntax>,
-        lexeme: Lexeme,
+        binders: Items<BinderSyntax<'a>>,
+        lexeme: Lexeme<'a>,
     ) -> Result<(), Stop>
-        ensures { Leads result self.new (machine.stop_next self.old.done quantifier binders lexeme) }
+        ensures { Leads result self.new (machine.stop_next self.old.done quantifier binders.entry lexeme.entry) }
     {
         match lexeme {
             Lexeme::Fixed(Mark::Comma) => {
@@ -216,8 +217,8 @@ impl PhraseReader {
     }
 
     /// The next word inside a quantifier.
-    fn inside(&mut self, alloc: Global, binding: Binding, lexeme: Lexeme) -> Result<(), Stop>
-        ensures { Leads result self.new (machine.inside self.old.done binding lexeme) }
+    fn inside(&mut self, binding: Binding<'a>, lexeme: Lexeme<'a>) -> Result<(), Stop>
+        ensures { Leads result self.new (machine.inside self.old.done binding.entry lexeme.entry) }
     {
         let Binding {
             quantifier,
@@ -227,17 +228,17 @@ impl PhraseReader {
         match stage {
             BinderStage::Name => self.name_next(quantifier, binders, lexeme),
             BinderStage::Colon(name) => self.colon_next(quantifier, binders, name, lexeme),
-            BinderStage::Sort(name) => self.sort_next(alloc, quantifier, binders, name, lexeme),
+            BinderStage::Sort(name) => self.sort_next(quantifier, binders, name, lexeme),
             BinderStage::Next => self.stop_next(quantifier, binders, lexeme),
         }
     }
 
     /// The reader one word further.
-    fn step(&mut self, alloc: Global, lexeme: Lexeme) -> Result<(), Stop>
-        ensures { Leads result self.new (machine.step self.old lexeme) }
+    pub(crate) fn step(&mut self, alloc: Global, lexeme: Lexeme<'a>) -> Result<(), Stop>
+        ensures { Leads result self.new (machine.step self.old lexeme.entry) }
     {
         match self.pending.take() {
-            Some(binding) => self.inside(alloc, binding, lexeme),
+            Some(binding) => self.inside(binding, lexeme),
             None => {
                 self.outside(alloc, lexeme)?;
                 Ok(())
@@ -245,37 +246,23 @@ impl PhraseReader {
         }
     }
 
-    fn run(&mut self, alloc: Global, lexemes: &mut Stack<Lexeme>) -> Result<(), Stop>
-        ensures { Leads result self.new (machine.run lexemes.old self.old) }
+    /// Whether the word is a phrase by itself, and the only one that is then ready.
+    pub(crate) fn is_plain(&self, lexeme: &Lexeme<'a>) -> bool
+        ensures { IsTrue result → (self.now ≡ machine.closed []) × (machine.step self.now lexeme.now ≡ Some (machine.word [] lexeme.now)) }
     {
-        while let Some(lexeme) = lexemes.pop() {
-            self.step(alloc, lexeme)?;
+        if self.pending.is_some() || !self.done.is_empty() {
+            return false;
         }
-        Ok(())
+        !matches!(lexeme, Lexeme::Fixed(Mark::ForAll | Mark::ForSome))
     }
 
-    /// The phrases, where no quantifier is open.
-    fn end(&mut self, alloc: Global) -> Result<Row<Phrase>, Stop>
-        ensures { Makes result (machine.ended self.old) }
+    /// The end, where no quantifier is open.
+    pub(crate) fn finish(&self) -> Result<(), Stop>
+        ensures { Leads result self.now.done (machine.ended self.now) }
     {
         match &self.pending {
-            None => Ok(mem::replace(&mut self.done, Row::new(alloc))),
+            None => Ok(()),
             Some(_) => Err(Stop::Misplaced),
         }
     }
-}
-
-/// The phrases of a text from its words.
-pub(crate) fn phrases_of(alloc: Global, lexemes: Row<Lexeme>) -> Result<Row<Phrase>, Stop>
-    ensures { Makes result (machine.phrases_of lexemes) }
-{
-    let mut rest = lexemes.into_stack();
-    let mut reader = PhraseReader::new(alloc);
-    let phrases = match reader.run(alloc, &mut rest) {
-        Ok(()) => reader.end(alloc),
-        Err(stop) => Err(stop),
-    };
-    drop(reader);
-    drop(rest);
-    phrases
 }

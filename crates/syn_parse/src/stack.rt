@@ -1,27 +1,9 @@
-// Lists that grow at their end and are then taken from their beginning, in the memory that they
-// have; and what serves values of any type.
-ghost use Rattle.std.specs.Prelude.{◌≡◌, [], ◌∷◌, ◌++◌, OnOk, IfOk, MatchOption};
+// Stacks, and what serves values of any type.
+ghost use Rattle.std.specs.Prelude.{◌≡◌, ◌↔◌, [], ◌∷◌, IsTrue, OnOk, IfOk, MatchOption};
 
 use sqlite_items::{Boxed, Items};
 use std::alloc::{AllocError, Global};
 use std::marker::Model;
-
-/// A list that grows at its end.
-#[derive(Drop)]
-pub(crate) struct Row<T> {
-    inner: Vec<T>,
-}
-
-impl<T> Model for Row<T> {
-    ghost use Rattle.std.specs.Prelude.{List};
-    ghost use Rattle.std.specs.Coded.{coded_list};
-
-    ghost Value = { List T };
-
-    ghost coded = { coded_list T.code };
-
-    ghost view = { λ r. r.inner.items };
-}
 
 /// A stack; contracts see the list of what is on it, the top first.
 #[derive(Drop)]
@@ -40,32 +22,6 @@ impl<T> Model for Stack<T> {
     ghost view = { λ s. reverse s.inner.items };
 }
 
-impl<T: Drop> Row<T> {
-    pub(crate) fn new(alloc: Global) -> Row<T>
-        ensures { result ≡ [] }
-    {
-        Row {
-            inner: Vec::new(alloc),
-        }
-    }
-
-    pub(crate) fn push(&mut self, item: T) -> Result<(), AllocError>
-        ensures { OnOk result (self.new ≡ self.old ++ item ∷ []) }
-    {
-        self.inner.push(item)?;
-        Ok(())
-    }
-
-    /// The same list as a stack, its first item on top.
-    pub(crate) fn into_stack(self) -> Stack<T>
-        ensures { result ≡ self }
-    {
-        let Row { mut inner } = self;
-        inner.reverse();
-        Stack { inner }
-    }
-}
-
 impl<T: Drop> Stack<T> {
     pub(crate) fn new(alloc: Global) -> Stack<T>
         ensures { result ≡ [] }
@@ -80,6 +36,12 @@ impl<T: Drop> Stack<T> {
     {
         self.inner.push(item)?;
         Ok(())
+    }
+
+    pub(crate) fn is_empty(&self) -> bool
+        ensures { IsTrue result ↔ (self.now ≡ []) }
+    {
+        self.inner.is_empty()
     }
 
     pub(crate) fn pop(&mut self) -> Option<T>

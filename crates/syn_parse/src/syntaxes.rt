@@ -1,19 +1,14 @@
-// The syntax tree of words, by the passes in a row: lexemes, phrases, and from these the items one by
-// one to the reader of the tree.
-ghost use Rattle.std.specs.Prelude.{◌≡◌, All, Option, IfOk};
+// The syntax tree of words: their items go one by one to the reader of the tree.
+ghost use Rattle.std.specs.Prelude.{All, IfOk};
 ghost use Rattle.syn_lex.specs.Lexing.{IsTokenWord};
-ghost use Rattle.syn_parse.specs.inner.Leads.{Makes};
-ghost use Rattle.syn_parse.specs.inner.Passes.{Gives, form_from, form_of, out_from, out_of, term_from, term_of};
-ghost use Rattle.syn_parse.specs.inner.PhraseMachine as machine;
+ghost use Rattle.syn_parse.specs.inner.Leads.{Gets, IsAnswer};
+ghost use Rattle.syn_parse.specs.inner.Passes.{Gives, form_from, out_from, term_from};
 
 use crate::form_reader::FormReader;
-use crate::item_reader::feed_items;
-use crate::lexemes::lexemes_of;
 use crate::out_reader::OutReader;
-use crate::phrase_reader::{Phrase, phrases_of};
-use crate::stack::Row;
 use crate::stop::Stop;
 use crate::term_reader::TermReader;
+use crate::words_reader::feed_words;
 use std::alloc::Global;
 use syn_form::{FormSyntax, OutSyntax, TermSyntax};
 use syn_lex::Words;
@@ -21,7 +16,7 @@ use syn_term::NoMemory;
 
 /// What a reader answers: None where it stopped at a word.
 fn answer<T: Drop>(read: Result<T, Stop>) -> Result<Option<T>, NoMemory>
-    ensures { (step : Option T) → Makes read step → IfOk result (λ o. o ≡ step) }
+    ensures { IsAnswer read result }
 {
     match read {
         Ok(value) => Ok(Some(value)),
@@ -30,82 +25,92 @@ fn answer<T: Drop>(read: Result<T, Stop>) -> Result<Option<T>, NoMemory>
     }
 }
 
-/// The phrases that the words are.
-fn phrases_in(alloc: Global, words: &Words) -> Result<Option<Row<Phrase>>, NoMemory>
-    ensures gives { IfOk result (Gives machine.phrases_of words.now) }
+/// The term that the words are.
+fn term_in<'a>(alloc: Global, words: &Words<'a>) -> Result<TermSyntax<'a>, Stop>
+    ensures answer { Gets result (Gives term_from words.now) }
     ensures each { All IsTokenWord words.now }
 {
-    match lexemes_of(alloc, words)? {
-        None => Ok(None),
-        Some(lexemes) => answer(phrases_of(alloc, lexemes)),
+    let mut reader = TermReader::new();
+    match feed_words(alloc, words, &mut reader) {
+        Ok(()) => {
+            let term = reader.end();
+            drop(reader);
+            term
+        }
+        Err(stop) => {
+            drop(reader);
+            Err(stop)
+        }
     }
 }
 
-fn term_of_phrases(alloc: Global, phrases: Row<Phrase>) -> Result<TermSyntax, Stop>
-    ensures { Makes result (term_of phrases) }
-{
-    let mut reader = TermReader::new();
-    let term = match feed_items(alloc, phrases, &mut reader) {
-        Ok(()) => reader.end(),
-        Err(stop) => Err(stop),
-    };
-    drop(reader);
-    term
-}
-
-fn form_of_phrases(alloc: Global, phrases: Row<Phrase>) -> Result<FormSyntax, Stop>
-    ensures { Makes result (form_of phrases) }
+/// The formula that the words are.
+fn form_in<'a>(alloc: Global, words: &Words<'a>) -> Result<FormSyntax<'a>, Stop>
+    ensures answer { Gets result (Gives form_from words.now) }
+    ensures each { All IsTokenWord words.now }
 {
     let mut reader = FormReader::new(alloc);
-    let form = match feed_items(alloc, phrases, &mut reader) {
-        Ok(()) => reader.end(alloc),
-        Err(stop) => Err(stop),
-    };
-    drop(reader);
-    form
+    match feed_words(alloc, words, &mut reader) {
+        Ok(()) => {
+            let form = reader.end(alloc);
+            drop(reader);
+            form
+        }
+        Err(stop) => {
+            drop(reader);
+            Err(stop)
+        }
+    }
 }
 
-fn out_of_phrases(alloc: Global, phrases: Row<Phrase>) -> Result<OutSyntax, Stop>
-    ensures { Makes result (out_of phrases) }
+/// The output that the words are.
+fn out_in<'a>(alloc: Global, words: &Words<'a>) -> Result<OutSyntax<'a>, Stop>
+    ensures answer { Gets result (Gives out_from words.now) }
+    ensures each { All IsTokenWord words.now }
 {
     let mut reader = OutReader::new(alloc);
-    let out = match feed_items(alloc, phrases, &mut reader) {
-        Ok(()) => reader.end(),
-        Err(stop) => Err(stop),
-    };
-    drop(reader);
-    out
+    match feed_words(alloc, words, &mut reader) {
+        Ok(()) => {
+            let out = reader.end();
+            drop(reader);
+            out
+        }
+        Err(stop) => {
+            drop(reader);
+            Err(stop)
+        }
+    }
 }
 
 /// The syntax tree of words that are one term; None where they are none, or one that is too high.
-pub(crate) fn term_syntax(alloc: Global, words: &Words) -> Result<Option<TermSyntax>, NoMemory>
+pub(crate) fn term_syntax<'a>(
+    alloc: Global,
+    words: &Words<'a>,
+) -> Result<Option<TermSyntax<'a>>, NoMemory>
     ensures gives { IfOk result (Gives term_from words.now) }
     ensures each { All IsTokenWord words.now }
 {
-    match phrases_in(alloc, words)? {
-        None => Ok(None),
-        Some(phrases) => answer(term_of_phrases(alloc, phrases)),
-    }
+    answer(term_in(alloc, words))
 }
 
 /// The same for a formula.
-pub(crate) fn form_syntax(alloc: Global, words: &Words) -> Result<Option<FormSyntax>, NoMemory>
+pub(crate) fn form_syntax<'a>(
+    alloc: Global,
+    words: &Words<'a>,
+) -> Result<Option<FormSyntax<'a>>, NoMemory>
     ensures gives { IfOk result (Gives form_from words.now) }
     ensures each { All IsTokenWord words.now }
 {
-    match phrases_in(alloc, words)? {
-        None => Ok(None),
-        Some(phrases) => answer(form_of_phrases(alloc, phrases)),
-    }
+    answer(form_in(alloc, words))
 }
 
 /// The same for an output.
-pub(crate) fn out_syntax(alloc: Global, words: &Words) -> Result<Option<OutSyntax>, NoMemory>
+pub(crate) fn out_syntax<'a>(
+    alloc: Global,
+    words: &Words<'a>,
+) -> Result<Option<OutSyntax<'a>>, NoMemory>
     ensures gives { IfOk result (Gives out_from words.now) }
     ensures each { All IsTokenWord words.now }
 {
-    match phrases_in(alloc, words)? {
-        None => Ok(None),
-        Some(phrases) => answer(out_of_phrases(alloc, phrases)),
-    }
+    answer(out_in(alloc, words))
 }

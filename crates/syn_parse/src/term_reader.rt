@@ -4,26 +4,26 @@ ghost use Rattle.syn_parse.specs.inner.Leads.{Makes};
 ghost use Rattle.syn_parse.specs.inner.Passes.{term_ended, term_start, term_step};
 
 use crate::items::Item;
-use crate::sink::ItemSink;
+use crate::sink::Sink;
 use crate::stop::Stop;
 use std::alloc::Global;
 use syn_form::TermSyntax;
 
 /// The term, where it was read.
 #[derive(Drop)]
-pub(crate) struct TermReader {
-    pub(crate) term: Option<TermSyntax>,
+pub(crate) struct TermReader<'a> {
+    pub(crate) term: Option<TermSyntax<'a>>,
 }
 
-impl TermReader {
-    pub(crate) fn new() -> TermReader
+impl<'a> TermReader<'a> {
+    pub(crate) fn new() -> TermReader<'a>
         ensures { result ≡ term_start }
     {
         TermReader { term: None }
     }
 
     /// The term that was read.
-    pub(crate) fn end(&mut self) -> Result<TermSyntax, Stop>
+    pub(crate) fn end(&mut self) -> Result<TermSyntax<'a>, Stop>
         ensures { Makes result (term_ended self.old) }
     {
         match self.term.take() {
@@ -33,10 +33,10 @@ impl TermReader {
     }
 }
 
-impl ItemSink for TermReader {
+impl<'a> Sink<Item<'a>> for TermReader<'a> {
     ghost takes = { term_step };
 
-    fn take(&mut self, _alloc: Global, item: Item) -> Result<(), Stop> {
+    fn take(&mut self, _alloc: Global, item: Item<'a>) -> Result<(), Stop> {
         match item {
             Item::Term(term) => match self.term.replace(term) {
                 None => Ok(()),

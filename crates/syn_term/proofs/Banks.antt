@@ -1,6 +1,5 @@
 -- Which terms that a bank makes are its own.
-use Rattle.std.proofs.Common.{◌≡◌, ℕ, zero, suc, ◌-◌, ◌^◌, ◌≤◌, ◌<◌, List, All, Some, None, Option, IfOk, length, get_or, slice_get, refl, arith, rules, sym, ◌∙◌, ap, subst}
-use Rattle.std.specs.Prelude.{[], ◌∷◌}
+use Rattle.std.proofs.Common.{◌≡◌, ℕ, zero, suc, ◌-◌, ◌^◌, ◌≤◌, List, All, get_or, refl, arith, rules, sym, ◌∙◌, ap, subst}
 use Rattle.std.proofs.lemmas.List.Elements.{All-from_get_or, All-nil, All-set}
 use Rattle.std.proofs.lemmas.Option.{slice_get-get_or}
 use Rattle.syn_term.specs.declared.sorts.SymId.{SymId}
@@ -11,7 +10,7 @@ use Rattle.syn_term.specs.declared.term.Node.TheVariants as node
 use Rattle.syn_term.specs.declared.term.Node.TheViews as view
 use Rattle.syn_term.specs.declared.term.Node.TheViews.{the_lemmas}
 use Rattle.syn_term.specs.Bank.{Kept, Belongs, Belongs-child, Belongs-made, Extends, Extends-of, Extends-refl, one_more, place_of}
-use Rattle.syn_term.specs.Terms.{TermTree, args_of, child}
+use Rattle.syn_term.specs.Terms.{TermTree, args_of}
 use Rattle.syn_term.specs.Positions.{with_nth}
 use Rattle.syn_term.proofs.Positions.{args_of-App, args_of-Var}
 

@@ -1,5 +1,5 @@
 -- What holds of a term with a new subterm at a position.
-use Rattle.std.proofs.Common.{◌≡◌, ◌≢◌, ℕ, zero, suc, ◌+◌, ◌<◌, ◌≤◌, List, [], ◌∷◌, ◌++◌, Option, None, Some, map, length, take, drop, get_or, ◌-◌, set, slice_get, sym, ◌∙◌, ap, subst, refl, arith, rules, ⊎_elim, inl, inr, ◌⊎◌}
+use Rattle.std.proofs.Common.{◌≡◌, ◌≢◌, ℕ, zero, suc, ◌+◌, ◌<◌, ◌≤◌, List, [], ◌∷◌, Option, None, Some, map, length, take, drop, get_or, ◌-◌, set, slice_get, sym, ◌∙◌, ap, subst, refl, arith, rules, inl, inr, ◌⊎◌}
 use Rattle.std.specs.Prelude.{IfOk}
 use Rattle.std.specs.declared.result.Result.{Result}
 use Rattle.std.specs.declared.result.Result.TheVariants.{Ok, Err}
@@ -7,8 +7,6 @@ use Rattle.std.specs.Option.{option_and_then, option_map, unwrap_or}
 use Rattle.std.proofs.lemmas.List.{length-take, map-set, take_all}
 use Rattle.std.proofs.lemmas.Bool.{cases_eq}
 use Rattle.syn_term.specs.declared.memory.NoMemory.{NoMemory}
-use Rattle.syn_term.specs.declared.sorts.Head.{Head}
-use Rattle.syn_term.specs.declared.sorts.Sort.{Sort}
 use Rattle.syn_term.specs.declared.sorts.SymId.{SymId}
 use Rattle.syn_term.specs.declared.sorts.Var.{Var}
 use Rattle.syn_term.specs.declared.term.Place.{Place}
@@ -20,8 +18,8 @@ use Rattle.syn_term.specs.declared.term.Node.TheViews.{the_lemmas}
 use denote.Hole.Carrier.{roll}
 use Rattle.syn_term.specs.Symbols.{SymbolTable}
 use Rattle.syn_term.specs.Terms.{TermTree, args_of, bare, bare_step, child, head_of, sort_of}
-use Rattle.syn_term.specs.Positions.{AreApart, IsFront, replaced_at, subterm_at, with_child, with_child_layer, with_nth}
-use Rattle.syn_term.proofs.Trees.{fold-App, fold-Var}
+use Rattle.syn_term.specs.Positions.{AreApart, replaced_at, subterm_at, with_child, with_child_layer, with_nth}
+use Rattle.syn_term.proofs.Trees.{fold-App}
 
 -- a list with another item at an index
 

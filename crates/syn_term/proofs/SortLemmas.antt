@@ -1,30 +1,24 @@
 -- The names of sorts: they stay distinct as sorts are declared and symbols are added, and a name is found at its place.
 use Rattle.std.proofs.Math.Dec.{leb}
-use Rattle.std.proofs.Common.{◌≡◌, ◌≢◌, ◌↔◌, IsTrue, ℕ, zero, suc, ◌+◌, ◌-◌, min, ◌<◌, ◌≤◌, ◌^◌, ◌⊎◌, Bool, true, false, List, [], ◌∷◌, ◌++◌, Option, Some, None, Any, Contains, String, codes, string_bytes, length, get_or, map, position, slice_get, sym, ◌∙◌, ap, subst, refl, ⊎_elim, inl, inr, arith, length-append, true≢false}
+use Rattle.std.proofs.Common.{◌≡◌, ◌≢◌, ◌↔◌, IsTrue, ℕ, zero, suc, ◌+◌, ◌-◌, min, ◌<◌, ◌≤◌, ◌^◌, ◌⊎◌, Bool, true, false, List, [], ◌∷◌, ◌++◌, Option, Some, None, Any, Contains, IfSome, MatchOption, codes, length, get_or, map, position, slice_get, sym, ◌∙◌, ap, subst, refl, ⊎_elim, inl, inr, arith, true≢false}
 use Rattle.std.specs.Option.{option_map}
 use Rattle.std.specs.List.{position_or_len, sum_by}
 use Rattle.std.specs.Str.{bytes_eq}
-use Rattle.std.specs.Map.{values_of}
-use Rattle.std.specs.String.{string_eq}
-use Rattle.std.specs.declared.alloc.Global.{Global}
 use Rattle.std.proofs.lemmas.List.{get_or-map, length-map, map-append}
-use Rattle.std.proofs.lemmas.Bool.{cases_lt}
 use Rattle.std.proofs.lemmas.List.Elements.{Contains-push_cases}
-use Rattle.std.proofs.lemmas.List.Sums.{fold-append, position_or_len_is}
+use Rattle.std.proofs.lemmas.List.Sums.{position_or_len_is}
 use Rattle.std.proofs.lemmas.Option.{get_or_from_slice_get, slice_get-get_or, slice_get-map, slice_get_within}
 use Rattle.std.proofs.lemmas.Bool.Decides.{nat_tests}
 use Rattle.std.proofs.lemmas.Slice.Eq.{bytes_eq-Decides}
-use Rattle.indexmap.specs.IndexMap.{insert_entry}
 use Rattle.syn_term.specs.declared.sorts.Kind.{Kind}
 use Rattle.syn_term.specs.declared.sorts.Kind.TheVariants as kind
 use Rattle.syn_term.specs.declared.sorts.NamedSort.{NamedSort}
-use Rattle.syn_term.specs.declared.sorts.Shape.{Shape}
 use Rattle.syn_term.specs.declared.sorts.Sort.{Sort}
 use Rattle.syn_term.specs.declared.sorts.Sort.TheVariants.{Nat, Named}
 use Rattle.syn_term.specs.declared.sorts.Sym.{Sym}
 use Rattle.syn_term.specs.Names.{IsName, IsSkolemName}
 use Rattle.syn_term.specs.Symbols.{SymbolTable, FitsName, IsTaken, MayAdd, names_of, with_symbol}
-use Rattle.syn_term.specs.DeclaredSorts.{HasDistinctSorts, default_size, default_sizes, name_of_sort, shape_size, size_in, with_sort}
+use Rattle.syn_term.specs.DeclaredSorts.{HasDistinctSorts, default_size, default_sizes, name_of_sort, size_in, with_sort}
 use Rattle.syn_term.proofs.KeyLemmas.{none_named, some_named}
 use Rattle.syn_term.proofs.NameLaws.{skolem_is}
 
@@ -141,49 +135,45 @@ new_beside_sort t y n new ne = record {
 position_at : (p : List ℕ → Bool) (ns : List (List ℕ)) (i : ℕ) → i < length ns → position_or_len p ns ≡ i → position p ns ≡ Some i
 position_at p ns i lt e = grind (arith, nat_tests)
 
-position_past : (p : List ℕ → Bool) (ns : List (List ℕ)) → position_or_len p ns ≡ length ns → position p ns ≡ None
-position_past p ns e = grind (arith, nat_tests)
-
 pub place_found : (ns : List (List ℕ)) (q : List ℕ) (i : ℕ) → i < length ns → ((k : ℕ) → k < i → bytes_eq q (get_or ns k []) ≡ false) → bytes_eq q (get_or ns i []) ≡ true → Some i ≡ position (bytes_eq q) ns
 place_found ns q i lt before here = sym (position_at (bytes_eq q) ns i lt (position_or_len_is (bytes_eq q) ns i [] (omega (arith, lt)) before (λ _. here)))
-
-pub no_place : (ns : List (List ℕ)) (q : List ℕ) → ((k : ℕ) → k < length ns → bytes_eq q (get_or ns k []) ≡ false) → None ≡ position (bytes_eq q) ns
-no_place ns q none = sym (position_past (bytes_eq q) ns (position_or_len_is (bytes_eq q) ns (length ns) [] (omega arith) none (λ lt. absurd (omega (arith, lt)))))
 
 abbrev sort_names : SymbolTable → List (List ℕ)
 sort_names t = map (λ (s : NamedSort). s.name) t.sorts
 
+-- a name with no place is the name of no declared sort, and one with a place is that of one
+pub has_place : (xs : List NamedSort) (q : List ℕ) (r : Option ℕ) → r ≡ position (bytes_eq q) (map (λ (s : NamedSort). s.name) xs) → MatchOption r (¬ (Any (λ (s : NamedSort). s.name ≡ q) xs)) (λ _. Any (λ (s : NamedSort). s.name ≡ q) xs)
+has_place xs q None e =
+    λ any.
+    let within : any.0 < length (map (λ (s : NamedSort). s.name) xs) = omega (arith, any.2, length-map xs (λ (s : NamedSort). s.name)) in
+    none_named (map (λ (s : NamedSort). s.name) xs) q e
+    (any.0, within, get_or-map (λ (s : NamedSort). s.name) xs any.0 any.1 q any.2 ∙ (ap (λ (s : NamedSort). s.name) any.3 ∙ any.4))
+has_place xs q (Some k) e =
+    has_name xs k q (slice_get xs k) refl (sym (slice_get-map (λ (s : NamedSort). s.name) xs k) ∙ some_named (map (λ (s : NamedSort). s.name) xs) q k e)
+
 -- no sort has a name that is neither `nat` nor among those of the declared sorts
-pub no_sort : (t : SymbolTable) (xs : List NamedSort) (q : List ℕ) → xs ≡ t.sorts → false ≡ bytes_eq q (codes "nat") → None ≡ position (bytes_eq q) (map (λ (s : NamedSort). s.name) xs) → (a : Sort) → name_of_sort t a ≡ Some q → ⊥
-no_sort t xs q own ne none Nat e =
+pub no_sort : (t : SymbolTable) (q : List ℕ) → false ≡ bytes_eq q (codes "nat") → None ≡ position (bytes_eq q) (sort_names t) → (a : Sort) → name_of_sort t a ≡ Some q → ⊥
+no_sort t q ne none Nat e =
     let same : q ≡ codes "nat" = cc in
     true≢false (sym ((bytes_eq-Decides q (codes "nat")).1 same) ∙ sym ne)
-no_sort t xs q own ne none (Named k) e =
+no_sort t q ne none (Named k) e =
     let at : slice_get (sort_names t) k ≡ Some q = slice_get-map (λ (s : NamedSort). s.name) t.sorts k ∙ e in
-    none_named (sort_names t) q (none ∙ ap (λ (ys : List NamedSort). position (bytes_eq q) (map (λ (s : NamedSort). s.name) ys)) own)
-    (k, slice_get_within (sort_names t) k q at, get_or_from_slice_get (sort_names t) k q q at)
+    none_named (sort_names t) q none (k, slice_get_within (sort_names t) k q at, get_or_from_slice_get (sort_names t) k q q at)
 
 -- and the declared sort at the place of the name has it
-pub sort_at_place : (t : SymbolTable) (xs : List NamedSort) (q : List ℕ) (k : ℕ) → xs ≡ t.sorts → Some k ≡ position (bytes_eq q) (map (λ (s : NamedSort). s.name) xs) → name_of_sort t (Named k) ≡ Some q
-sort_at_place t xs q k own e =
-    sym (slice_get-map (λ (s : NamedSort). s.name) t.sorts k)
-    ∙ some_named (sort_names t) q k (e ∙ ap (λ (ys : List NamedSort). position (bytes_eq q) (map (λ (s : NamedSort). s.name) ys)) own)
+pub sort_at_place : (t : SymbolTable) (q : List ℕ) (k : ℕ) → Some k ≡ position (bytes_eq q) (sort_names t) → name_of_sort t (Named k) ≡ Some q
+sort_at_place t q k e = sym (slice_get-map (λ (s : NamedSort). s.name) t.sorts k) ∙ some_named (sort_names t) q k e
 
--- the name looked for is compared with one more
-pub name_at : (xs : List NamedSort) (i : ℕ) (s : NamedSort) → i < length xs → get_or (map (λ (x : NamedSort). x.name) xs) i [] ≡ (get_or xs i s).name
-name_at xs i s lt = get_or-map (λ (x : NamedSort). x.name) xs i s [] lt
-
-pub none_yet : (xs : List NamedSort) (q : List ℕ) (i : ℕ) (s : NamedSort) → i < length xs → bytes_eq q (get_or xs i s).name ≡ false → ((k : ℕ) → k < i → bytes_eq q (get_or (map (λ (x : NamedSort). x.name) xs) k []) ≡ false) → (k : ℕ) → k < i + 1 → bytes_eq q (get_or (map (λ (x : NamedSort). x.name) xs) k []) ≡ false
-none_yet xs q i s lt differs before k below =
-    ⊎_elim (λ less. before k less)
-    (λ more. let same : k ≡ i = omega (arith, more, below) in ap (λ (j : ℕ). bytes_eq q (get_or (map (λ (x : NamedSort). x.name) xs) j [])) same ∙ (ap (bytes_eq q) (name_at xs i s lt) ∙ differs))
-    (cases_lt k i)
+-- a place among the sorts is a number of 32 bits
+pub place_few : {X : Type 0} (es : List X) (sorts : List NamedSort) (r : Option ℕ) → length es ≡ length sorts → length sorts ≤ 2 ^ 32 → IfSome r (λ i. i < length es) → IfSome r (λ i. i < 2 ^ 32)
+place_few es sorts None same few within = tt
+place_few es sorts (Some i) same few within = omega (arith, within)
 
 -- a sum that stays at its last value is small where it is
 small_is : (r n : ℕ) → r ≡ min n (2 ^ 32 - 1) → IsTrue (leb r 64) ↔ (n ≤ 64)
 small_is r n is = grind (arith, nat_tests)
 
-pub small_tuple : (t : SymbolTable) (sizes now : List ℕ) (sorts : List NamedSort) (parts : List Sort) (r : ℕ) → now ≡ sizes → sizes ≡ default_sizes sorts → sorts ≡ t.sorts → r ≡ min (1 + sum_by (size_in now) parts) (2 ^ 32 - 1) → IsTrue (leb r 64) ↔ (1 + sum_by (default_size t) parts ≤ 64)
-small_tuple t sizes now sorts parts r same sized own is =
-    let sizes_are : now ≡ default_sizes t.sorts = same ∙ (sized ∙ ap default_sizes own) in
+pub small_tuple : (t : SymbolTable) (sizes : List ℕ) (sorts : List NamedSort) (parts : List Sort) (r : ℕ) → sizes ≡ default_sizes sorts → sorts ≡ t.sorts → r ≡ min (1 + sum_by (size_in sizes) parts) (2 ^ 32 - 1) → IsTrue (leb r 64) ↔ (1 + sum_by (default_size t) parts ≤ 64)
+small_tuple t sizes sorts parts r sized own is =
+    let sizes_are : sizes ≡ default_sizes t.sorts = sized ∙ ap default_sizes own in
     small_is r (1 + sum_by (default_size t) parts) (is ∙ ap (λ (ns : List ℕ). min (1 + sum_by (size_in ns) parts) (2 ^ 32 - 1)) sizes_are)

@@ -1,5 +1,5 @@
 -- A table stays a table as symbols are added and sorts are declared.
-use Rattle.std.proofs.Common.{◌≡◌, ◌≢◌, ℕ, zero, suc, ◌+◌, ◌<◌, ◌≤◌, ◌⊎◌, List, [], ◌∷◌, ◌++◌, Option, Some, None, All, Contains, IfSome, codes, length, map, slice_get, get_or, sym, ◌∙◌, ap, subst, refl, ⊎_elim, inl, inr, arith, length-append}
+use Rattle.std.proofs.Common.{◌≡◌, ◌≢◌, ℕ, zero, suc, ◌+◌, ◌<◌, ◌⊎◌, List, [], ◌∷◌, ◌++◌, Option, Some, None, All, Contains, IfSome, codes, length, map, slice_get, get_or, sym, ◌∙◌, ap, subst, refl, ⊎_elim, inl, inr, arith, length-append}
 use Rattle.std.specs.Option.{option_map}
 use Rattle.std.proofs.lemmas.List.Elements.{All-nil, All-cons, All-push, All-weaker}
 use Rattle.std.proofs.lemmas.Option.{get_or_from_slice_get, slice_get-map, slice_get_within}
@@ -42,22 +42,40 @@ names_grow t s h free i j a b at_i at_j e =
     (λ last_i. ⊎_elim (λ old_j. absurd (unnamed t s.name j b free old_j (sym e ∙ sym (ap (λ (x : Sym). x.name) last_i.1)))) (λ last_j. last_i.0 ∙ sym last_j.0) (at_last t.syms s j b at_j))
     (at_last t.syms s i a at_i)
 
+-- what is among the names of some things is the name of one
+named_at : {X : Type 0} (name : X → List ℕ) (xs : List X) (k : ℕ) (n : List ℕ) → k < length (map name xs) → get_or (map name xs) k n ≡ n → (x : X) × (slice_get xs k ≡ Some x) × (name x ≡ n)
+named_at name [] k n lt e = absurd (omega arith)
+named_at name (x ∷ xs) zero n lt e = (x, refl, e)
+named_at name (x ∷ xs) (suc k) n lt e = named_at name xs k n (omega arith) e
+
 -- and where they are distinct, the last is no name of the others
 pub last_is_new : (t : SymbolTable) (s : Sym) → HasDistinctNames (with_symbol t s) → ¬ (Contains (names_of t) s.name)
 last_is_new t s h has =
-    let there = slice_get-named t.syms has.0 s.name has.1 has.2 in
+    let there = named_at (λ (x : Sym). x.name) t.syms has.0 s.name has.1 has.2 in
     let same : has.0 ≡ length t.syms = h has.0 (length t.syms) there.0 s (slice_get-append t.syms (s ∷ []) has.0 there.0 there.1) (last_at t.syms s) there.2 in
     let within : has.0 < length t.syms = slice_get_within t.syms has.0 there.0 there.1 in
     omega arith
-  where
-    slice_get-named : (xs : List Sym) (k : ℕ) (n : List ℕ) → k < length (map (λ (x : Sym). x.name) xs) → get_or (map (λ (x : Sym). x.name) xs) k n ≡ n → (x : Sym) × (slice_get xs k ≡ Some x) × (x.name ≡ n)
-    slice_get-named [] k n lt e = absurd (omega arith)
-    slice_get-named (x ∷ xs) zero n lt e = (x, refl, e)
-    slice_get-named (x ∷ xs) (suc k) n lt e = slice_get-named xs k n (omega arith) e
 
 pub names_before : (t : SymbolTable) (s : Sym) → HasDistinctNames (with_symbol t s) → HasDistinctNames t
 names_before t s h i j a b at_i at_j e =
     h i j a b (slice_get-append t.syms (s ∷ []) i a at_i) (slice_get-append t.syms (s ∷ []) j b at_j) e
+
+-- a sort that is declared last has a name that no other has
+abbrev pub number_of : Sort → ℕ
+number_of Nat = 0
+number_of (Named k) = k
+
+pub last_sort_new : (t : SymbolTable) (xs : List NamedSort) (y : NamedSort) → t.sorts ≡ xs ++ y ∷ [] → HasDistinctSorts t → ¬ (Contains (map (λ (s : NamedSort). s.name) xs) y.name)
+last_sort_new t xs y is h has =
+    let name = λ (s : NamedSort). s.name in
+    let there = named_at name xs has.0 y.name has.1 has.2 in
+    let within : has.0 < length xs = slice_get_within xs has.0 there.0 there.1 in
+    let whole = λ (k : ℕ). ap (λ (zs : List NamedSort). option_map name (slice_get zs k)) is in
+    let here : name_of_sort t (Named has.0) ≡ Some y.name =
+    whole has.0 ∙ (ap (option_map name) (slice_get-append xs (y ∷ []) has.0 there.0 there.1) ∙ ap Some there.2) in
+    let last : name_of_sort t (Named (length xs)) ≡ Some y.name = whole (length xs) ∙ ap (option_map name) (last_at xs y) in
+    let same : has.0 ≡ length xs = ap number_of (h.sorts (Named has.0) (Named (length xs)) y.name here last) in
+    omega arith
 
 -- all that makes a table but the shapes of its sorts
 record Core (table : SymbolTable) : Type 0 where

@@ -1,14 +1,14 @@
 // A table of symbols once more: each symbol and each sort is a copy.
-ghost use Rattle.std.specs.Prelude.{◌≡◌, ◌++◌, [], IfOk, OnOk};
+ghost use Rattle.std.specs.Prelude.{◌≡◌, ◌<◌, ◌^◌, ◌++◌, [], IfOk, OnOk, length};
 ghost use Rattle.std.specs.Option.{option_copied};
 ghost use Rattle.indexmap.specs.IndexMap.{values};
 ghost use Rattle.syn_term.specs.Symbols.{HasDistinctNames};
 ghost use Rattle.syn_term.specs.DeclaredSorts.{IsTable};
-ghost use Rattle.syn_term.specs.inner.SymbolKeys.{IsKeyed};
+ghost use Rattle.syn_term.specs.inner.SymbolKeys.{AreSameSizes, HasDistinctKeys, IsKeyed, IsPut};
 
 use crate::memory::NoMemory;
 use crate::sorts::{NamedSort, Shape, Sym};
-use crate::symbols::{Symbols, enter, make_sym, nth_symbol};
+use crate::symbols::{Symbols, enter, make_sym, nth, put, ready};
 use crate::text::Text;
 use indexmap::IndexMap;
 use sqlite_items::Items;
@@ -70,20 +70,76 @@ fn push_sorts(
     Ok(())
 }
 
-// The declared sorts and the sizes of their default terms.
-fn copy_lists(
-    alloc: Global,
-    sorts: &[NamedSort],
-    sizes: &[u32],
-) -> Result<(Items<NamedSort>, Items<u32>), NoMemory>
-    ensures { IfOk result (λ lists. (lists.0 ≡ sorts.now) × (lists.1 ≡ sizes.now)) }
+fn copy_sorts(alloc: Global, sorts: &[NamedSort]) -> Result<Items<NamedSort>, NoMemory>
+    ensures { IfOk result (λ copies. copies ≡ sorts.now) }
 {
-    let sizes = Items::from_slice(alloc, sizes)?;
     let mut copies = Items::new(alloc);
     match push_sorts(alloc, sorts, &mut copies) {
-        Ok(()) => Ok((copies, sizes)),
+        Ok(()) => Ok(copies),
         Err(error) => {
             drop(copies);
+            Err(error)
+        }
+    }
+}
+
+// Puts the size under a copy of the name.
+fn put_size(sizes: &mut IndexMap<String, u32>, name: &str, size: u32) -> Result<(), NoMemory>
+    ensures is { OnOk result (IsPut name.now size sizes.old.entries sizes.new.entries) }
+    ensures few { OnOk result (length sizes.old.entries < 2 ^ 32) }
+{
+    let (_, key) = ready(sizes, name)?;
+    put(sizes, key, size);
+    Ok(())
+}
+
+// Puts each size of a table into an empty one, under the same name.
+fn put_sizes(
+    from: &IndexMap<String, u32>,
+    sizes: &mut IndexMap<String, u32>,
+) -> Result<(), NoMemory>
+    requires empty { sizes.old.entries ≡ [] }
+    requires distinct { HasDistinctKeys from.now.entries }
+    ensures { OnOk result (AreSameSizes from.now.entries sizes.new.entries) }
+{
+    let mut index = 0;
+    while let Some((name, size)) = from.get_index(index) {
+        put_size(sizes, name.as_str(), *size)?;
+        index += 1;
+    }
+    Ok(())
+}
+
+fn copy_sizes(
+    alloc: Global,
+    from: &IndexMap<String, u32>,
+) -> Result<IndexMap<String, u32>, NoMemory>
+    requires { HasDistinctKeys from.now.entries }
+    ensures { IfOk result (λ copy. AreSameSizes from.now.entries copy.entries) }
+{
+    let mut sizes = IndexMap::new(alloc);
+    match put_sizes(from, &mut sizes) {
+        Ok(()) => Ok(sizes),
+        Err(error) => {
+            drop(sizes);
+            Err(error)
+        }
+    }
+}
+
+// The declared sorts and the sizes of their default terms.
+fn copy_tables(
+    alloc: Global,
+    sorts: &[NamedSort],
+    sizes: &IndexMap<String, u32>,
+) -> Result<(Items<NamedSort>, IndexMap<String, u32>), NoMemory>
+    requires { HasDistinctKeys sizes.now.entries }
+    ensures { IfOk result (λ copy. (copy.0 ≡ sorts.now) × AreSameSizes sizes.now.entries copy.1.entries) }
+{
+    let sizes = copy_sizes(alloc, sizes)?;
+    match copy_sorts(alloc, sorts) {
+        Ok(sorts) => Ok((sorts, sizes)),
+        Err(error) => {
             drop(sizes);
             Err(error)
         }
@@ -101,7 +157,7 @@ fn enter_all(
     ensures { OnOk result (IsKeyed by_name.new.entries × (values by_name.new ≡ values from.now)) }
 {
     let mut index = 0;
-    while let Some(sym) = nth_symbol(from, index) {
+    while let Some(sym) = nth(from, index) {
         enter(by_name, copy_sym(alloc, sym)?)?;
         index += 1;
     }
@@ -132,7 +188,7 @@ impl Symbols {
         ensures table { IfOk result IsTable }
     {
         let by_name = copy_symbols(alloc, &self.by_name)?;
-        match copy_lists(alloc, self.sorts.as_slice(), self.sizes.as_slice()) {
+        match copy_tables(alloc, self.sorts.as_slice(), &self.sizes) {
             Ok((sorts, sizes)) => Ok(Symbols {
                 by_name,
                 sorts,

@@ -3,9 +3,9 @@
 ghost use Rattle.std.specs.Prelude.{◌≡◌, ◌≢◌, ◌↔◌, ◌+◌, ◌-◌, ◌<◌, ◌≤◌, ◌^◌, min, [], ◌∷◌, ◌++◌, IsTrue, Some, IfNone, IfOk, OnOk, OnErr, MatchOption, length, map, position, string_bytes};
 ghost use Rattle.std.specs.List.{sum_by};
 ghost use Rattle.std.specs.Option.{option_copied};
-ghost use Rattle.std.specs.Str.{bytes_eq};
-ghost use Rattle.indexmap.specs.IndexMap.{spare};
-ghost use Rattle.syn_term.specs.declared.sorts.Kind.TheVariants.{Cons, Nil};
+ghost use Rattle.std.specs.String.{string_eq};
+ghost use Rattle.indexmap.specs.IndexMap.{insert_entry, spare, values};
+ghost use Rattle.syn_term.specs.declared.sorts.Kind.TheVariants.{Cons, Nil, Tuple};
 ghost use Rattle.syn_term.specs.declared.sorts.Shape.TheVariants as shapes;
 ghost use Rattle.syn_term.specs.Names.{IsName};
 ghost use Rattle.syn_term.specs.Symbols.{IsTaken, IsPrefix, with_symbol};
@@ -14,7 +14,7 @@ ghost use Rattle.syn_term.specs.DeclaredSorts.{IsTable, MayAddList, MayAddTuple,
 use crate::memory::NoMemory;
 use crate::names::is_name;
 use crate::sorts::{Kind, NamedSort, Shape, Sort, Sym, SymId};
-use crate::symbols::{Symbols, are_sorts, is_sort, make_sym, put};
+use crate::symbols::{Symbols, are_sorts, is_sort, make_sym, nth, put};
 use crate::text::Text;
 use indexmap::IndexMap;
 use sqlite_items::{Items, at};
@@ -31,12 +31,12 @@ const LEAST_PARTS: usize = 2;
 const MOST_PARTS: usize = 4;
 
 // The number of nodes of the sort's default term.
-fn size_of(sizes: &[u32], sort: Sort) -> u32
-    ensures { result ≡ size_in sizes.now sort }
+fn size_of(sizes: &IndexMap<String, u32>, sort: Sort) -> u32
+    ensures { result ≡ size_in (values sizes.now) sort }
 {
     match sort {
         Sort::Nat => 1,
-        Sort::Named(number) => match at(sizes, number as usize) {
+        Sort::Named(number) => match nth(sizes, number as usize) {
             None => 0,
             Some(size) => *size,
         },
@@ -44,8 +44,8 @@ fn size_of(sizes: &[u32], sort: Sort) -> u32
 }
 
 // The same for the sort of tuples with these parts. The sum stays at its last value.
-fn tuple_size(sizes: &[u32], parts: &[Sort]) -> u32
-    ensures { result ≡ min (1 + sum_by (size_in sizes.now) parts.now) (2 ^ 32 - 1) }
+fn tuple_size(sizes: &IndexMap<String, u32>, parts: &[Sort]) -> u32
+    ensures { result ≡ min (1 + sum_by (size_in (values sizes.now)) parts.now) (2 ^ 32 - 1) }
 {
     let mut total = 1u32;
     for part in parts {
@@ -76,11 +76,86 @@ fn keyed(
 ) -> Result<(String, Sym), NoMemory>
     ensures { IfOk result (λ made. (string_bytes made.0 ≡ name.now) × (made.1 ≡ record { name = name.now; kind = kind; args = args.now; result = Some sort })) }
 {
-    let key = String::from_str(alloc, name)?;
-    match make_sym(alloc, name, kind, args, Some(sort)) {
-        Ok(sym) => Ok((key, sym)),
+    let sym = make_sym(alloc, name, kind, args, Some(sort))?;
+    match String::from_str(alloc, name) {
+        Ok(key) => Ok((key, sym)),
+        Err(_) => {
+            drop(sym);
+            Err(NoMemory)
+        }
+    }
+}
+
+// A sort, and the key that the size of its default term stands under, which is its name once more.
+fn keyed_sort(alloc: Global, name: &str, shape: Shape) -> Result<(String, NamedSort), NoMemory>
+    ensures { IfOk result (λ made. (string_bytes made.0 ≡ name.now) × (made.1 ≡ record { name = name.now; shape = shape })) }
+{
+    match named(alloc, name, shape) {
+        Err(error) => Err(error),
+        Ok(sort) => match String::from_str(alloc, name) {
+            Ok(key) => Ok((key, sort)),
+            Err(_) => {
+                drop(sort);
+                Err(NoMemory)
+            }
+        },
+    }
+}
+
+fn named(alloc: Global, name: &str, shape: Shape) -> Result<NamedSort, NoMemory>
+    ensures { IfOk result (λ sort. sort ≡ record { name = name.now; shape = shape }) }
+{
+    match Text::from_str(alloc, name) {
+        Ok(name) => Ok(NamedSort { name, shape }),
+        Err(_) => {
+            drop(shape);
+            Err(NoMemory)
+        }
+    }
+}
+
+// The sort of lists with these items and symbols.
+fn keyed_list(
+    alloc: Global,
+    name: &str,
+    nil: SymId,
+    cons: SymId,
+    item: Sort,
+) -> Result<(String, NamedSort), NoMemory>
+    ensures { IfOk result (λ made. (string_bytes made.0 ≡ name.now) × (made.1 ≡ record { name = name.now; shape = shapes.List nil cons item })) }
+{
+    keyed_sort(alloc, name, Shape::List { nil, cons, item })
+}
+
+// The sort of tuples with these parts.
+fn keyed_tuple(
+    alloc: Global,
+    name: &str,
+    make: SymId,
+    parts: &[Sort],
+) -> Result<(String, NamedSort), NoMemory>
+    ensures { IfOk result (λ made. (string_bytes made.0 ≡ name.now) × (made.1 ≡ record { name = name.now; shape = shapes.Tuple make parts.now })) }
+{
+    let parts = Items::from_slice(alloc, parts)?;
+    keyed_sort(alloc, name, Shape::Tuple { make, parts })
+}
+
+// The same and the symbol that makes its values.
+fn made_tuple(
+    alloc: Global,
+    name: &str,
+    make: &str,
+    parts: &[Sort],
+    next: (Sort, SymId, SymId),
+) -> Result<((String, NamedSort), (String, Sym)), NoMemory>
+    ensures sort { IfOk result (λ made. (string_bytes made.0.0 ≡ name.now) × (made.0.1 ≡ record { name = name.now; shape = shapes.Tuple next.1 parts.now })) }
+    ensures make { IfOk result (λ made. (string_bytes made.1.0 ≡ make.now) × (made.1.1 ≡ record { name = make.now; kind = Tuple; args = parts.now; result = Some next.0 })) }
+{
+    let named = keyed_tuple(alloc, name, next.1, parts)?;
+    match keyed(alloc, make, Kind::Tuple, parts, next.0) {
+        Ok(make) => Ok((named, make)),
         Err(error) => {
-            drop(key);
+            drop(named);
             Err(error)
         }
     }
@@ -107,51 +182,52 @@ fn keyed_makers(
     }
 }
 
-// The sort of tuples with these parts.
-fn named_tuple(
+// The list sort and its two symbols.
+fn made_list(
     alloc: Global,
     name: &str,
-    make: SymId,
-    parts: &[Sort],
-) -> Result<NamedSort, NoMemory>
-    ensures { IfOk result (λ sort. sort ≡ record { name = name.now; shape = shapes.Tuple make parts.now }) }
+    nil: &str,
+    cons: &str,
+    item: Sort,
+    next: (Sort, SymId, SymId),
+) -> Result<((String, NamedSort), ((String, Sym), (String, Sym))), NoMemory>
+    ensures sort { IfOk result (λ made. (string_bytes made.0.0 ≡ name.now) × (made.0.1 ≡ record { name = name.now; shape = shapes.List next.1 next.2 item })) }
+    ensures nil { IfOk result (λ made. (string_bytes made.1.0.0 ≡ nil.now) × (made.1.0.1 ≡ record { name = nil.now; kind = Nil; args = []; result = Some next.0 })) }
+    ensures cons { IfOk result (λ made. (string_bytes made.1.1.0 ≡ cons.now) × (made.1.1.1 ≡ record { name = cons.now; kind = Cons; args = item ∷ next.0 ∷ []; result = Some next.0 })) }
 {
-    let parts = Items::from_slice(alloc, parts)?;
-    match Text::from_str(alloc, name) {
-        Ok(name) => Ok(NamedSort {
-            name,
-            shape: Shape::Tuple { make, parts },
-        }),
-        Err(_) => {
-            drop(parts);
-            Err(NoMemory)
+    let named = keyed_list(alloc, name, next.1, next.2, item)?;
+    match keyed_makers(alloc, nil, cons, item, next.0) {
+        Ok(makers) => Ok((named, makers)),
+        Err(error) => {
+            drop(named);
+            Err(error)
         }
     }
 }
 
-// Puts the sort and its size after the others, or leaves both lists as they were.
+// Puts the sort after the others and the size under its name, or leaves both as they were.
 fn push_sort(
     sorts: &mut Items<NamedSort>,
-    sizes: &mut Items<u32>,
-    sort: NamedSort,
+    sizes: &mut IndexMap<String, u32>,
+    sort: (String, NamedSort),
     size: u32,
 ) -> Result<(), NoMemory>
-    ensures sorts { OnOk result (sorts.new ≡ sorts.old ++ sort ∷ []) }
-    ensures sizes { OnOk result (sizes.new ≡ sizes.old ++ size ∷ []) }
+    ensures sorts { OnOk result (sorts.new ≡ sorts.old ++ sort.1 ∷ []) }
+    ensures sizes { OnOk result (sizes.new.entries ≡ insert_entry string_eq sizes.old.entries sort.0 size) }
     ensures err_sorts { OnErr result (sorts.new ≡ sorts.old) }
-    ensures err_sizes { OnErr result (sizes.new ≡ sizes.old) }
+    ensures err_sizes { OnErr result (sizes.new.entries ≡ sizes.old.entries) }
 {
-    if sizes.push(size).is_err() {
+    if sizes.reserve(1).is_err() {
         drop(sort);
         return Err(NoMemory);
     }
-    match sorts.push(sort) {
-        Ok(()) => Ok(()),
-        Err(_) => {
-            sizes.pop();
-            Err(NoMemory)
-        }
+    let (key, sort) = sort;
+    if sorts.push(sort).is_err() {
+        drop(key);
+        return Err(NoMemory);
     }
+    put(sizes, key, size);
+    Ok(())
 }
 
 // The same where there is to be room for so many symbols more.
@@ -159,16 +235,16 @@ fn push_room(
     by_name: &mut IndexMap<String, Sym>,
     count: usize,
     sorts: &mut Items<NamedSort>,
-    sizes: &mut Items<u32>,
-    sort: NamedSort,
+    sizes: &mut IndexMap<String, u32>,
+    sort: (String, NamedSort),
     size: u32,
 ) -> Result<(), NoMemory>
     ensures entries { by_name.new.entries ≡ by_name.old.entries }
     ensures room { OnOk result (count ≤ spare by_name.new) }
-    ensures sorts { OnOk result (sorts.new ≡ sorts.old ++ sort ∷ []) }
-    ensures sizes { OnOk result (sizes.new ≡ sizes.old ++ size ∷ []) }
+    ensures sorts { OnOk result (sorts.new ≡ sorts.old ++ sort.1 ∷ []) }
+    ensures sizes { OnOk result (sizes.new.entries ≡ insert_entry string_eq sizes.old.entries sort.0 size) }
     ensures err_sorts { OnErr result (sorts.new ≡ sorts.old) }
-    ensures err_sizes { OnErr result (sizes.new ≡ sizes.old) }
+    ensures err_sizes { OnErr result (sizes.new.entries ≡ sizes.old.entries) }
 {
     if by_name.reserve(count).is_err() {
         drop(sort);
@@ -177,15 +253,14 @@ fn push_room(
     push_sort(sorts, sizes, sort, size)
 }
 
-fn place_of(sorts: &[NamedSort], name: &str) -> Option<usize>
-    ensures { result ≡ position (bytes_eq name.now) (map (λ sort. sort.name) sorts.now) }
+// Puts a symbol under its key, where there is room.
+fn put_keyed(by_name: &mut IndexMap<String, Sym>, made: (String, Sym))
+    requires { 0 < spare by_name.old }
+    ensures entries { by_name.new.entries ≡ insert_entry string_eq by_name.old.entries made.0 made.1 }
+    ensures room { spare by_name.old ≤ spare by_name.new + 1 }
 {
-    for place in 0..sorts.len() {
-        if name == sorts[place].name.as_str() {
-            return Some(place);
-        }
-    }
-    None
+    let (key, sym) = made;
+    put(by_name, key, sym);
 }
 
 impl Symbols {
@@ -215,12 +290,18 @@ impl Symbols {
 
     // Declares the sort and adds the one symbol that makes its values. Room is made first, so that
     // nothing is left half done where memory is refused.
-    fn push_one(&mut self, sort: NamedSort, size: u32, make: (String, Sym)) -> Result<(), NoMemory>
+    fn push_one(
+        &mut self,
+        sort: (String, NamedSort),
+        size: u32,
+        make: (String, Sym),
+    ) -> Result<(), NoMemory>
+        requires sort { string_bytes sort.0 ≡ sort.1.name }
         requires own { string_bytes make.0 ≡ make.1.name }
-        requires table { IsTable (with_symbol (with_sort self.old sort) make.1) }
-        requires sized { size ≡ shape_size (default_sizes self.old.sorts) sort.shape }
+        requires table { IsTable (with_symbol (with_sort self.old sort.1) make.1) }
+        requires sized { size ≡ shape_size (default_sizes self.old.sorts) sort.1.shape }
         requires few { (length self.old.sorts < 2 ^ 32) × (length self.old.syms + 1 < 2 ^ 32) }
-        ensures ok { OnOk result (self.new ≡ with_symbol (with_sort self.old sort) make.1) }
+        ensures ok { OnOk result (self.new ≡ with_symbol (with_sort self.old sort.1) make.1) }
         ensures err { OnErr result (self.new ≡ self.old) }
         ensures table { IsTable self.new }
     {
@@ -233,8 +314,7 @@ impl Symbols {
             size,
         ) {
             Ok(()) => {
-                let (key, sym) = make;
-                put(&mut self.by_name, key, sym);
+                put_keyed(&mut self.by_name, make);
                 Ok(())
             }
             Err(error) => {
@@ -247,15 +327,17 @@ impl Symbols {
     // The same with two symbols.
     fn push_two(
         &mut self,
-        sort: NamedSort,
+        sort: (String, NamedSort),
         size: u32,
-        makers: ((String, Sym), (String, Sym)),
+        nil: (String, Sym),
+        cons: (String, Sym),
     ) -> Result<(), NoMemory>
-        requires own { (string_bytes makers.0.0 ≡ makers.0.1.name) × (string_bytes makers.1.0 ≡ makers.1.1.name) }
-        requires table { IsTable (with_symbol (with_symbol (with_sort self.old sort) makers.0.1) makers.1.1) }
-        requires sized { size ≡ shape_size (default_sizes self.old.sorts) sort.shape }
+        requires sort { string_bytes sort.0 ≡ sort.1.name }
+        requires own { (string_bytes nil.0 ≡ nil.1.name) × (string_bytes cons.0 ≡ cons.1.name) }
+        requires table { IsTable (with_symbol (with_symbol (with_sort self.old sort.1) nil.1) cons.1) }
+        requires sized { size ≡ shape_size (default_sizes self.old.sorts) sort.1.shape }
         requires few { (length self.old.sorts < 2 ^ 32) × (length self.old.syms + 1 < 2 ^ 32) }
-        ensures ok { OnOk result (self.new ≡ with_symbol (with_symbol (with_sort self.old sort) makers.0.1) makers.1.1) }
+        ensures ok { OnOk result (self.new ≡ with_symbol (with_symbol (with_sort self.old sort.1) nil.1) cons.1) }
         ensures err { OnErr result (self.new ≡ self.old) }
         ensures table { IsTable self.new }
     {
@@ -268,14 +350,13 @@ impl Symbols {
             size,
         ) {
             Ok(()) => {
-                let ((key, sym), second) = makers;
-                put(&mut self.by_name, key, sym);
-                let (key, sym) = second;
-                put(&mut self.by_name, key, sym);
+                put_keyed(&mut self.by_name, nil);
+                put_keyed(&mut self.by_name, cons);
                 Ok(())
             }
             Err(error) => {
-                drop(makers);
+                drop(nil);
+                drop(cons);
                 Err(error)
             }
         }
@@ -299,25 +380,10 @@ impl Symbols {
         ensures table { IsTable self.new }
     {
         let alloc = *self.by_name.allocator();
-        let (sort, first, second) = self.next()?;
-        let named = NamedSort {
-            name: Text::from_str(alloc, name)?,
-            shape: Shape::List {
-                nil: first,
-                cons: second,
-                item,
-            },
-        };
-        match keyed_makers(alloc, nil, cons, item, sort) {
-            Ok(makers) => {
-                self.push_two(named, 1, makers)?;
-                Ok(sort)
-            }
-            Err(error) => {
-                drop(named);
-                Err(error)
-            }
-        }
+        let next = self.next()?;
+        let (named, (nil, cons)) = made_list(alloc, name, nil, cons, item, next)?;
+        self.push_two(named, 1, nil, cons)?;
+        Ok(next.0)
     }
 
     /// Declares the sort of lists `name = nil | cons(item, name)`, adds its two symbols after the
@@ -350,7 +416,7 @@ impl Symbols {
     fn is_small(&self, parts: &[Sort]) -> bool
         ensures { IsTrue result ↔ (1 + sum_by (default_size self.now) parts.now ≤ 64) }
     {
-        tuple_size(self.sizes.as_slice(), parts) <= MOST_NODES
+        tuple_size(&self.sizes, parts) <= MOST_NODES
     }
 
     fn may_add_tuple(&self, name: &str, make: &str, parts: &[Sort]) -> bool
@@ -372,19 +438,11 @@ impl Symbols {
         ensures table { IsTable self.new }
     {
         let alloc = *self.by_name.allocator();
-        let (sort, first, _) = self.next()?;
-        let size = tuple_size(self.sizes.as_slice(), parts);
-        let named = named_tuple(alloc, name, first, parts)?;
-        match keyed(alloc, make, Kind::Tuple, parts, sort) {
-            Ok(make) => {
-                self.push_one(named, size, make)?;
-                Ok(sort)
-            }
-            Err(error) => {
-                drop(named);
-                Err(error)
-            }
-        }
+        let next = self.next()?;
+        let size = tuple_size(&self.sizes, parts);
+        let (named, make) = made_tuple(alloc, name, make, parts, next)?;
+        self.push_one(named, size, make)?;
+        Ok(next.0)
     }
 
     /// Declares the sort of tuples `name = make(parts..)`, adds its symbol after the others and gives
@@ -422,11 +480,11 @@ impl Symbols {
         ensures named { MatchOption result ((sort : Sort) → name_of_sort self.now sort ≢ Some name.now) (λ sort. name_of_sort self.now sort ≡ Some name.now) }
         ensures table { IsTable self.now }
     {
-        let sorts = self.sorts.as_slice();
+        let place = self.place_of_sort(name);
         if name == NAT {
             return Some(Sort::Nat);
         }
-        match place_of(sorts, name) {
+        match place {
             None => None,
             Some(place) => Some(Sort::Named(place as u32)),
         }

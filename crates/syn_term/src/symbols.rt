@@ -1,7 +1,7 @@
-// The table of symbols. A symbol is found by its name in a hash table and by its number in order; a
-// symbol is added only where every test passes, so that a table stays one, and what it says of a
-// symbol never changes.
-ghost use Rattle.std.specs.Prelude.{◌≡◌, ◌↔◌, ◌+◌, ◌<◌, ◌≤◌, ◌^◌, ◌∷◌, string_bytes, ℕ, IsTrue, Some, IfSome, IfNone, IfOk, OnOk, OnErr, MatchOption, Contains, All, Any, [], slice_get, length, position};
+// The table of symbols. A symbol is found by its name in a hash table and by its number in order, and
+// so is a declared sort; a symbol is added only where every test passes, so that a table stays one, and
+// what it says of a symbol never changes.
+ghost use Rattle.std.specs.Prelude.{◌≡◌, ◌↔◌, ◌+◌, ◌<◌, ◌≤◌, ◌^◌, ◌∷◌, string_bytes, ℕ, IsTrue, Some, IfSome, IfNone, IfOk, OnOk, OnErr, MatchOption, Contains, All, Any, [], slice_get, length, map, position};
 ghost use Rattle.std.specs.Option.{option_copied, option_map};
 ghost use Rattle.std.specs.Str.{bytes_eq};
 ghost use Rattle.std.specs.String.{string_eq};
@@ -90,12 +90,6 @@ fn is_result(count: usize, sort: Option<Sort>) -> bool
     }
 }
 
-fn names_a_sort(sorts: &[NamedSort], name: &str) -> bool
-    ensures { IsTrue result ↔ Any (λ sort. sort.name ≡ name.now) sorts.now }
-{
-    sorts.iter().any(|sort| sort.name.as_str() == name)
-}
-
 // The symbol, each of its parts a copy.
 pub(crate) fn make_sym(
     alloc: Global,
@@ -121,28 +115,31 @@ pub(crate) fn make_sym(
     }
 }
 
-// The number of the symbol that is entered next, and a copy of its name as the key that it will
-// stand under; there is room for it then.
-fn ready(by_name: &mut IndexMap<String, Sym>, name: &str) -> Result<(u32, String), NoMemory>
-    ensures entries { by_name.new.entries ≡ by_name.old.entries }
-    ensures room { OnOk result (0 < spare by_name.new) }
-    ensures number { IfOk result (λ made. made.0 ≡ length by_name.old.entries) }
+// The number of what is put next, and a copy of the name as the key that it will stand under; there is
+// room for it then.
+pub(crate) fn ready<V>(
+    table: &mut IndexMap<String, V>,
+    name: &str,
+) -> Result<(u32, String), NoMemory>
+    ensures entries { table.new.entries ≡ table.old.entries }
+    ensures room { OnOk result (0 < spare table.new) }
+    ensures number { IfOk result (λ made. made.0 ≡ length table.old.entries) }
     ensures own { IfOk result (λ made. string_bytes made.1 ≡ name.now) }
 {
-    let Ok(number) = u32::try_from(by_name.len()) else {
+    let Ok(number) = u32::try_from(table.len()) else {
         return Err(NoMemory);
     };
-    by_name.reserve(1)?;
-    Ok((number, String::from_str(*by_name.allocator(), name)?))
+    table.reserve(1)?;
+    Ok((number, String::from_str(*table.allocator(), name)?))
 }
 
-// Puts the symbol under the key, where there is room: this takes no memory.
-pub(crate) fn put(by_name: &mut IndexMap<String, Sym>, key: String, sym: Sym)
-    requires { 0 < spare by_name.old }
-    ensures entries { by_name.new.entries ≡ insert_entry string_eq by_name.old.entries key sym }
-    ensures room { spare by_name.old ≤ spare by_name.new + 1 }
+// Puts the value under the key, where there is room: this takes no memory.
+pub(crate) fn put<V: Drop>(table: &mut IndexMap<String, V>, key: String, value: V)
+    requires { 0 < spare table.old }
+    ensures entries { table.new.entries ≡ insert_entry string_eq table.old.entries key value }
+    ensures room { spare table.old ≤ spare table.new + 1 }
 {
-    let _ = by_name.insert(key, sym);
+    drop(table.insert(key, value));
 }
 
 // Enters the symbol under its name and gives its number, or leaves the hash table as it was.
@@ -163,13 +160,13 @@ pub(crate) fn enter(by_name: &mut IndexMap<String, Sym>, sym: Sym) -> Result<Sym
     }
 }
 
-// The symbol that was entered so many after the first.
-pub(crate) fn nth_symbol(by_name: &IndexMap<String, Sym>, index: usize) -> Option<&Sym>
-    ensures { option_copied result ≡ slice_get (values by_name.now) index }
+// The value that was put so many after the first.
+pub(crate) fn nth<V>(table: &IndexMap<String, V>, index: usize) -> Option<&V>
+    ensures { option_copied result ≡ slice_get (values table.now) index }
 {
-    match by_name.get_index(index) {
+    match table.get_index(index) {
         None => None,
-        Some((_, sym)) => Some(sym),
+        Some((_, value)) => Some(value),
     }
 }
 
@@ -192,8 +189,8 @@ fn enter_first(alloc: Global, by_name: &mut IndexMap<String, Sym>) -> Result<(),
 pub struct Symbols {
     pub(crate) by_name: IndexMap<String, Sym>,
     pub(crate) sorts: Items<NamedSort>,
-    // The number of nodes of each declared sort's default term.
-    pub(crate) sizes: Items<u32>,
+    // The number of nodes of each declared sort's default term, under the sort's name.
+    pub(crate) sizes: IndexMap<String, u32>,
     // How numbers are built, to be lent.
     pub(crate) nat: Shape,
 }
@@ -218,7 +215,7 @@ impl Model for Symbols {
 
     ghost view = { λ table. record { syms = values table.by_name; sorts = table.sorts } };
 
-    ghost invariant = { λ table. IsIndexed table.by_name.entries table.sorts table.sizes table.nat };
+    ghost invariant = { λ table. IsIndexed table.by_name.entries table.sorts table.sizes.entries table.nat };
 }
 
 impl Symbols {
@@ -232,7 +229,7 @@ impl Symbols {
             Ok(()) => Ok(Symbols {
                 by_name,
                 sorts: Items::new(alloc),
-                sizes: Items::new(alloc),
+                sizes: IndexMap::new(alloc),
                 nat: Shape::Nat,
             }),
             Err(error) => {
@@ -253,11 +250,21 @@ impl Symbols {
         Ok(id)
     }
 
+    // The place of the declared sort with this name.
+    pub(crate) fn place_of_sort(&self, name: &str) -> Option<usize>
+        ensures place { result ≡ position (bytes_eq name.now) (map (λ sort. sort.name) self.now.sorts) }
+        ensures few { IfSome result (λ place. place < 2 ^ 32) }
+        ensures named { MatchOption result (¬ (Any (λ sort. sort.name ≡ name.now) self.now.sorts)) (λ _. Any (λ sort. sort.name ≡ name.now) self.now.sorts) }
+        ensures table { IsTable self.now }
+    {
+        self.sizes.get_index_of(name)
+    }
+
     pub(crate) fn is_taken(&self, name: &str) -> bool
         ensures taken { IsTrue result ↔ IsTaken self.now name.now }
         ensures table { IsTable self.now }
     {
-        self.find(name).is_some() || names_a_sort(self.sorts.as_slice(), name)
+        self.find(name).is_some() || self.place_of_sort(name).is_some()
     }
 
     fn may_add(&self, sym: &Sym) -> bool
@@ -309,6 +316,6 @@ impl Symbols {
         ensures symbol { option_copied result ≡ symbol_at self.now id }
         ensures table { IsTable self.now }
     {
-        nth_symbol(&self.by_name, id.0 as usize)
+        nth(&self.by_name, id.0 as usize)
     }
 }

@@ -1,5 +1,5 @@
 -- Private: the machine that puts terms and equalities together, one phrase at a time.
-use Rattle.std.specs.Prelude.{ℕ, ◌+◌, ◌-◌, List, [], ◌∷◌, ◌++◌, Option, None, Some, if◌then◌else◌, nat_lt}
+use Rattle.std.specs.Prelude.{◌≡◌, ℕ, ◌+◌, ◌-◌, List, [], ◌∷◌, ◌++◌, Option, None, Some, if◌then◌else◌, nat_lt}
 use Rattle.std.specs.Option.{option_and_then, option_map}
 use Rattle.syn_form.specs.declared.syntax.Mark.{Mark}
 use Rattle.syn_form.specs.declared.syntax.Mark.TheVariants as mark
@@ -143,6 +143,10 @@ quantifier_next r q binders = quantifier_at r.calls r q binders
 abbrev pub step : ItemReader → Phrase → Option ItemReader
 step r (phrase.Word l) = word_next r l
 step r (phrase.Quantifier q binders) = quantifier_next r q binders
+
+-- nothing waits in the reader, and the mark is an item by itself
+abbrev pub IsLone : ItemReader → Mark → Type 0
+IsLone r m = (r ≡ reads [] None [] r.count None) × (mark_next r m ≡ Some (reads (item.Fixed m ∷ []) None [] r.count None))
 
 abbrev pub run : List Phrase → ItemReader → Option ItemReader
 run [] r = Some r

@@ -68,9 +68,13 @@ begun arms (item.Term t) = came arms (given t)
 begun arms (item.Fixed m) = mark_first arms m
 begun arms _ = None
 
+-- an output is wanted, as the first arm of a choice with this test
+abbrev pub with_test : List Arm → Tall → OutReader
+with_test arms test = wanted (arm.Then test ∷ arms)
+
 -- `then` ends the test
 abbrev pub then_next : List Arm → FormReader → Option OutReader
-then_next arms r = option_map (λ test. wanted (arm.Then test ∷ arms)) (tests.finished r)
+then_next arms r = option_map (with_test arms) (tests.finished r)
 
 abbrev pub test_next : List Arm → FormReader → Item → Option OutReader
 test_next arms r i = option_map (testing arms) (tests.step r i)

@@ -1,9 +1,11 @@
-use Rattle.std.proofs.Common.{◌+◌, ◌*◌, ◌<◌, ◌∙◌, inl, inr, length, map, sum, refl, arith}
+use Rattle.std.proofs.Common.{◌≡◌, All, ◌+◌, ◌*◌, ◌<◌, ◌∙◌, inl, inr, length, map, sum, refl, subst, sym, arith}
+use Rattle.std.proofs.lemmas.Result.{IfOk-weaker}
 use Rattle.syn_term.specs.Bank.{Belongs, Extends-trans}
+use Rattle.syn_form.specs.declared.trees.Form.TheViews as view
 use Rattle.syn_form.specs.Inputs.{form_with_inputs, terms_size}
 use Rattle.syn_form.specs.Plain.{IsFormed}
 use Rattle.syn_form.specs.Simplification.{conjunction, disjunction}
-use Rattle.syn_form.specs.Trees.{bare_form, form_nodes}
+use Rattle.syn_form.specs.Trees.{FormTree, bare_form, form_nodes, form_terms}
 use Rattle.syn_form.proofs.Fewer.{fewer_left, fewer_right, no_more}
 use Rattle.syn_form.proofs.FormedForms.{atom_formed, equality_formed, negation_formed, chain_formed, implication_formed}
 use Rattle.syn_form.proofs.InputTerms.{all_still, inputs_still}
@@ -23,14 +25,14 @@ put_in_form-put_in_forms-requires t c =
     let fewer = fewer_members conjunction _ _ _ c.in-And.is same in
     let less : 2 * sum (map form_nodes c.as_slice-in-And.result.now) + 1 < t = omega arith in (less, (c.requires.inputs, (((chain_formed _ _ _ _ (inl c.in-And.is) same).0 c.requires.formed).1, c.requires.own)))
 
-pub put_in_form-returns-in_err-all-in-And-clause-made : goal.put_in_form-returns-in_err-all-in-And-clause-made
-put_in_form-returns-in_err-all-in-And-clause-made t c = made_chain _ _ _ conjunction _ _ c.in-And.is (c.as_slice-in-And.ensures ∙ c.get-in-And.ensures) c.put_in_forms.ensures.made
+pub put_in_form-returns-in-Err-clause-made : goal.put_in_form-returns-in-Err-clause-made
+put_in_form-returns-in-Err-clause-made t c = made_chain _ _ _ conjunction _ _ c.in-And.is (c.as_slice-in-And.ensures ∙ c.get-in-And.ensures) c.put_in_forms.ensures.made
 
-pub put_in_form-returns-in_ok-all-in-And-clause-made : goal.put_in_form-returns-in_ok-all-in-And-clause-made
-put_in_form-returns-in_ok-all-in-And-clause-made t c = made_chain _ _ _ conjunction _ _ c.in-And.is (c.as_slice-in-And.ensures ∙ c.get-in-And.ensures) c.put_in_forms.ensures.made
+pub put_in_form-returns-in-Ok-put_in_forms-clause-made : goal.put_in_form-returns-in-Ok-put_in_forms-clause-made
+put_in_form-returns-in-Ok-put_in_forms-clause-made t c = made_chain _ _ _ conjunction _ _ c.in-And.is (c.as_slice-in-And.ensures ∙ c.get-in-And.ensures) c.put_in_forms.ensures.made
 
-pub put_in_form-returns-in_ok-all-in-And-clause-belongs : goal.put_in_form-returns-in_ok-all-in-And-clause-belongs
-put_in_form-returns-in_ok-all-in-And-clause-belongs t c = all-chain (Belongs _) conjunction _ _ refl c.in_ok-all-in-And.ensures.belongs
+pub put_in_form-returns-in-Ok-put_in_forms-clause-belongs : goal.put_in_form-returns-in-Ok-put_in_forms-clause-belongs
+put_in_form-returns-in-Ok-put_in_forms-clause-belongs t c = all-chain (Belongs _) conjunction _ _ refl c.in-Ok-put_in_forms.ensures.belongs
 
 pub put_in_form-put_in_forms-requires-in-Or : goal.put_in_form-put_in_forms-requires-in-Or
 put_in_form-put_in_forms-requires-in-Or t c =
@@ -38,14 +40,14 @@ put_in_form-put_in_forms-requires-in-Or t c =
     let fewer = fewer_members disjunction _ _ _ c.in-Or.is same in
     let less : 2 * sum (map form_nodes c.as_slice-in-Or.result.now) + 1 < t = omega arith in (less, (c.requires.inputs, (((chain_formed _ _ _ _ (inr c.in-Or.is) same).0 c.requires.formed).1, c.requires.own)))
 
-pub put_in_form-returns-in_err-all-in-Or-clause-made : goal.put_in_form-returns-in_err-all-in-Or-clause-made
-put_in_form-returns-in_err-all-in-Or-clause-made t c = made_chain _ _ _ disjunction _ _ c.in-Or.is (c.as_slice-in-Or.ensures ∙ c.get-in-Or.ensures) c.put_in_forms-in-Or.ensures.made
+pub put_in_form-returns-in-Err-put_in_forms-clause-made : goal.put_in_form-returns-in-Err-put_in_forms-clause-made
+put_in_form-returns-in-Err-put_in_forms-clause-made t c = made_chain _ _ _ disjunction _ _ c.in-Or.is (c.as_slice-in-Or.ensures ∙ c.get-in-Or.ensures) c.put_in_forms-in-Or.ensures.made
 
-pub put_in_form-returns-in_ok-all-in-Or-clause-made : goal.put_in_form-returns-in_ok-all-in-Or-clause-made
-put_in_form-returns-in_ok-all-in-Or-clause-made t c = made_chain _ _ _ disjunction _ _ c.in-Or.is (c.as_slice-in-Or.ensures ∙ c.get-in-Or.ensures) c.put_in_forms-in-Or.ensures.made
+pub put_in_form-returns-in-Ok-put_in_forms-2-clause-made : goal.put_in_form-returns-in-Ok-put_in_forms-2-clause-made
+put_in_form-returns-in-Ok-put_in_forms-2-clause-made t c = made_chain _ _ _ disjunction _ _ c.in-Or.is (c.as_slice-in-Or.ensures ∙ c.get-in-Or.ensures) c.put_in_forms-in-Or.ensures.made
 
-pub put_in_form-returns-in_ok-all-in-Or-clause-belongs : goal.put_in_form-returns-in_ok-all-in-Or-clause-belongs
-put_in_form-returns-in_ok-all-in-Or-clause-belongs t c = all-chain (Belongs _) disjunction _ _ refl c.in_ok-all-in-Or.ensures.belongs
+pub put_in_form-returns-in-Ok-put_in_forms-2-clause-belongs : goal.put_in_form-returns-in-Ok-put_in_forms-2-clause-belongs
+put_in_form-returns-in-Ok-put_in_forms-2-clause-belongs t c = all-chain (Belongs _) disjunction _ _ refl c.in-Ok-put_in_forms-2.ensures.belongs
 
 pub put_in_form-put_in_form-requires-in-Implies : goal.put_in_form-put_in_form-requires-in-Implies
 put_in_form-put_in_form-requires-in-Implies t c =
@@ -59,23 +61,14 @@ put_in_form-put_in_form-requires-in-Implies-2 t c =
     let less : 2 * form_nodes c.get-in-Implies-2.result.now < t = omega arith in
     (less, (c.requires.inputs, (((implication_formed _ _ _ _ _ _ c.in-Implies.is refl c.get-in-Implies-2.ensures).0 c.requires.formed).1, inputs_still _ _ _ c.put_in_form-in-Implies.ensures.extends c.requires.own)))
 
-pub put_in_form-returns-in_err-put_in_form-in-Implies-clause-made : goal.put_in_form-returns-in_err-put_in_form-in-Implies-clause-made
-put_in_form-returns-in_err-put_in_form-in-Implies-clause-made t c = made_left _ _ _ _ _ _ c.in-Implies.is c.get-in-Implies.ensures c.put_in_form-in-Implies.ensures.made
-
 pub put_in_form-returns-in_err-a-in-Implies-clause-made : goal.put_in_form-returns-in_err-a-in-Implies-clause-made
 put_in_form-returns-in_err-a-in-Implies-clause-made t c = made_left _ _ _ _ _ _ c.in-Implies.is c.get-in-Implies.ensures c.put_in_form-in-Implies.ensures.made
 
-pub put_in_form-returns-in_err-put_in_form-in-Implies-2-clause-made : goal.put_in_form-returns-in_err-put_in_form-in-Implies-2-clause-made
-put_in_form-returns-in_err-put_in_form-in-Implies-2-clause-made t c = made_both _ _ _ _ _ _ _ _ c.in-Implies.is c.get-in-Implies.ensures c.get-in-Implies-2.ensures c.put_in_form-in-Implies.ensures.made c.put_in_form-in-Implies-2.ensures.made
+pub put_in_form-returns-in_default-put_in_form-clause-made : goal.put_in_form-returns-in_default-put_in_form-clause-made
+put_in_form-returns-in_default-put_in_form-clause-made t c = made_both _ _ _ _ _ _ _ _ c.in-Implies.is c.get-in-Implies.ensures c.get-in-Implies-2.ensures c.put_in_form-in-Implies.ensures.made c.put_in_form-in-Implies-2.ensures.made
 
-pub put_in_form-returns-in_err-b-in-Implies-clause-made : goal.put_in_form-returns-in_err-b-in-Implies-clause-made
-put_in_form-returns-in_err-b-in-Implies-clause-made t c = made_both _ _ _ _ _ _ _ _ c.in-Implies.is c.get-in-Implies.ensures c.get-in-Implies-2.ensures c.put_in_form-in-Implies.ensures.made c.put_in_form-in-Implies-2.ensures.made
-
-pub put_in_form-returns-in_ok-b-in-Implies-clause-made : goal.put_in_form-returns-in_ok-b-in-Implies-clause-made
-put_in_form-returns-in_ok-b-in-Implies-clause-made t c = made_both _ _ _ _ _ _ _ _ c.in-Implies.is c.get-in-Implies.ensures c.get-in-Implies-2.ensures c.put_in_form-in-Implies.ensures.made c.put_in_form-in-Implies-2.ensures.made
-
-pub put_in_form-returns-in_ok-b-in-Implies-clause-belongs : goal.put_in_form-returns-in_ok-b-in-Implies-clause-belongs
-put_in_form-returns-in_ok-b-in-Implies-clause-belongs t c = all-Implies (Belongs _) _ _ _ _ c.in_ok-a-in-Implies.ensures c.in_ok-b-in-Implies.ensures (all_still _ _ _ c.put_in_form-in-Implies-2.ensures.extends c.in_ok-put_in_form-in-Implies.ensures.belongs) c.in_ok-put_in_form-in-Implies-2.ensures.belongs
+pub put_in_form-returns-in-Ok-put_in_form-clause-made : goal.put_in_form-returns-in-Ok-put_in_form-clause-made
+put_in_form-returns-in-Ok-put_in_form-clause-made t c = made_both _ _ _ _ _ _ _ _ c.in-Implies.is c.get-in-Implies.ensures c.get-in-Implies-2.ensures c.put_in_form-in-Implies.ensures.made c.put_in_form-in-Implies-2.ensures.made
 
 pub put_in_forms-put_in_form-requires : goal.put_in_forms-put_in_form-requires
 put_in_forms-put_in_form-requires t c =
@@ -105,3 +98,9 @@ put_in_form-put_in_equality-requires-clause-left t c = ((equality_formed _ _ _ _
 
 pub put_in_form-put_in_equality-requires-clause-right : goal.put_in_form-put_in_equality-requires-clause-right
 put_in_form-put_in_equality-requires-clause-right t c = ((equality_formed _ _ _ _ c.in-Equal.is).0 c.requires.formed).1
+
+pub put_in_form-returns-in-Ok-put_in_form-clause-belongs : goal.put_in_form-returns-in-Ok-put_in_form-clause-belongs
+put_in_form-returns-in-Ok-put_in_form-clause-belongs t c =
+    let own = all-Implies (Belongs c.put_in_form-in-Implies-2.new.bank) _ _ _ _ refl refl (all_still _ _ _ c.put_in_form-in-Implies-2.ensures.extends c.in_ok-a-in-Implies.ensures.belongs) c.in-Ok-put_in_form.ensures.belongs in
+    IfOk-weaker c.implication_of.result (λ g. g ≡ view.Implies c.in_ok-a-in-Implies.a c.in-Ok-put_in_form.b) (λ g. All (Belongs c.put_in_form-in-Implies-2.new.bank) (form_terms g))
+    (λ g e. subst (λ (z : FormTree). All (Belongs c.put_in_form-in-Implies-2.new.bank) (form_terms z)) (sym e) own) c.implication_of.ensures

@@ -1,6 +1,6 @@
-use Rattle.std.proofs.Common.{◌+◌, ◌*◌, ◌<◌, ◌∙◌, length, map, sum, arith}
+use Rattle.std.proofs.Common.{◌≡◌, ◌+◌, ◌*◌, ◌<◌, ◌∙◌, IfOk, length, map, sum, subst, arith}
 use Rattle.syn_form.specs.Simplification.{conjunction, disjunction}
-use Rattle.syn_form.specs.Trees.{form_nodes}
+use Rattle.syn_form.specs.Trees.{FormTree, form_nodes}
 use Rattle.syn_form.proofs.Fewer.{fewer_left, fewer_right, no_more}
 use Rattle.syn_form.proofs.Members.{item_and}
 use Rattle.syn_form.proofs.ReplacingEnds.{left_and, right_and, members_and, fewer_members, hit_end, not_end, chain_end, implies_end}
@@ -31,19 +31,22 @@ replaced-replaced-requires-in-Implies-2 t c =
     let fewer = fewer_right _ _ _ _ c.in-Implies.is c.get-in-Implies-2.ensures in
     let less : 2 * form_nodes c.get-in-Implies-2.result.now < t = omega arith in (less, right_and _ _ c.requires _ _ c.in-Implies.is _ c.get-in-Implies-2.ensures)
 
-pub replaced-returns-in_ok-new-in-Not : goal.replaced-returns-in_ok-new-in-Not
-replaced-returns-in_ok-new-in-Not t c = not_end _ _ _ _ c.is_same.ensures c.if-is_same.false _ _ _ _ c.in-Not.is c.get.ensures c.in_ok-a-in-Not.ensures c.in_ok-new-in-Not.ensures
+pub replaced-returns-in-Ok : goal.replaced-returns-in-Ok
+replaced-returns-in-Ok t c =
+    subst (λ (z : FormTree). IfOk c.negation_of.result (λ g. g ≡ z))
+    (not_end _ _ _ _ c.is_same.ensures c.if-is_same.false _ _ _ c.in-Not.is c.get.ensures c.in-Ok.ensures) c.negation_of.ensures
 
-pub replaced-returns-in_ok-replaced_members-in-And : goal.replaced-returns-in_ok-replaced_members-in-And
-replaced-returns-in_ok-replaced_members-in-And t c = chain_end _ _ _ _ c.is_same.ensures c.if-is_same.false conjunction _ _ _ c.in-And.is (c.as_slice.ensures ∙ c.get-in-And.ensures) c.in_ok-replaced_members-in-And.ensures
+pub replaced-returns-in-Ok-replaced_members : goal.replaced-returns-in-Ok-replaced_members
+replaced-returns-in-Ok-replaced_members t c = chain_end _ _ _ _ c.is_same.ensures c.if-is_same.false conjunction _ _ _ c.in-And.is (c.as_slice.ensures ∙ c.get-in-And.ensures) c.in-Ok-replaced_members.ensures
 
-pub replaced-returns-in_ok-replaced_members-in-Or : goal.replaced-returns-in_ok-replaced_members-in-Or
-replaced-returns-in_ok-replaced_members-in-Or t c = chain_end _ _ _ _ c.is_same.ensures c.if-is_same.false disjunction _ _ _ c.in-Or.is (c.as_slice-in-Or.ensures ∙ c.get-in-Or.ensures) c.in_ok-replaced_members-in-Or.ensures
+pub replaced-returns-in-Ok-replaced_members-2 : goal.replaced-returns-in-Ok-replaced_members-2
+replaced-returns-in-Ok-replaced_members-2 t c = chain_end _ _ _ _ c.is_same.ensures c.if-is_same.false disjunction _ _ _ c.in-Or.is (c.as_slice-in-Or.ensures ∙ c.get-in-Or.ensures) c.in-Ok-replaced_members-2.ensures
 
-pub replaced-returns-in_ok-b-in-Implies : goal.replaced-returns-in_ok-b-in-Implies
-replaced-returns-in_ok-b-in-Implies t c =
-    implies_end _ _ _ _ c.is_same.ensures c.if-is_same.false _ _ _ _ _ _ _ _ c.in-Implies.is c.get-in-Implies.ensures c.get-in-Implies-2.ensures
-    c.in_ok-replaced-in-Implies.ensures c.in_ok-replaced-in-Implies-2.ensures c.in_ok-a-in-Implies.ensures c.in_ok-b-in-Implies.ensures
+pub replaced-returns-in-Ok-replaced : goal.replaced-returns-in-Ok-replaced
+replaced-returns-in-Ok-replaced t c =
+    subst (λ (z : FormTree). IfOk c.implication_of.result (λ g. g ≡ z))
+    (implies_end _ _ _ _ c.is_same.ensures c.if-is_same.false _ _ _ _ _ _ c.in-Implies.is c.get-in-Implies.ensures c.get-in-Implies-2.ensures
+    c.in_ok-a-in-Implies.ensures c.in-Ok-replaced.ensures) c.implication_of.ensures
 
 pub replaced_members-replaced-requires : goal.replaced_members-replaced-requires
 replaced_members-replaced-requires t c =

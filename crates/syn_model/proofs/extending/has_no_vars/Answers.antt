@@ -1,7 +1,7 @@
 use Rattle.std.proofs.Common.{refl}
-use Rattle.syn_model.proofs.Deciding.{tested}
+use Rattle.syn_form.proofs.Deciding.{other_way, same_fact}
 use Rattle.syn_model.proofs.Free.{among_none}
 use Rattle.syn_model.proofs.extending.has_no_vars.Goals as goal
 
 pub returns : goal.returns
-returns c = tested _ _ _ c.form_is_over.ensures (among_none _ _ refl)
+returns c = same_fact (other_way (among_none _ _ refl)) c.form_is_over.ensures

@@ -3,10 +3,10 @@ use Rattle.syn_model.proofs.Asking.{axiom_asked, fun_asked, list_asked, rel_aske
 use Rattle.syn_model.proofs.may_follow.asks.Goals as goal
 
 pub returns-in-FunClause : goal.returns-in-FunClause
-returns-in-FunClause c = IfOk-weaker c.may_fun_clause.result _ _ (λ b t. fun_asked _ _ b _ _ _ _ c.in-FunClause.is c.decls.ensures.all c.as_slice-in-FunClause.ensures t) c.may_fun_clause.ensures
+returns-in-FunClause c = IfOk-weaker c.asks_fun_clause.result _ _ (λ b t. fun_asked _ _ b _ _ _ c.in-FunClause.is c.as_slice-in-FunClause.ensures t) c.asks_fun_clause.ensures
 
 pub returns-in-RelClause : goal.returns-in-RelClause
-returns-in-RelClause c = IfOk-weaker c.may_rel_clause.result _ _ (λ b t. rel_asked _ _ b _ _ _ _ c.in-RelClause.is c.decls-in-RelClause.ensures.all c.as_slice-in-RelClause.ensures t) c.may_rel_clause.ensures
+returns-in-RelClause c = IfOk-weaker c.asks_rel_clause.result _ _ (λ b t. rel_asked _ _ b _ _ _ c.in-RelClause.is c.as_slice-in-RelClause.ensures t) c.asks_rel_clause.ensures
 
 pub returns-in-Axiom : goal.returns-in-Axiom
 returns-in-Axiom c = IfOk-weaker c.may_axiom.result _ _ (λ b t. axiom_asked _ _ b _ _ _ c.in-Axiom.is c.as_str-in-Axiom.ensures t) c.may_axiom.ensures

@@ -1,5 +1,4 @@
 use Rattle.std.proofs.Common.{[], ◌∷◌}
-use Rattle.std.proofs.lemmas.Result.{IfOk-weaker}
 use Rattle.syn_term.specs.declared.tokens.TokenKind.TheVariants as kind
 use Rattle.syn_lex.specs.Lexing.{word}
 use Rattle.syn_parse.specs.inner.Spelling.{NoNumber, row_word}
@@ -16,7 +15,5 @@ returns-in-Some c =
     let digits = c.in-Some.digits in
     let after = c.in-Some.sort in
     let cut = c.in-Some.ensures.cases in
-    IfOk-weaker c.sorted_row.result _ _
-    (λ o h. there_is (row_word digits.now (58 ∷ after.now)) (word kind.RowVar (63 ∷ c.args.text.now)) (NoNumber digits.now) o
-    (split c.args.text.now digits after c.requires cut) (sorted_word c.args.text.now digits after cut) h)
-    c.sorted_row.ensures
+    there_is (row_word digits.now (58 ∷ after.now)) (word kind.RowVar (63 ∷ c.args.text.now)) (NoNumber digits.now) c.sorted_row.result
+    (split c.args.text.now digits after c.requires cut) (sorted_word c.args.text.now digits after cut) c.sorted_row.ensures

@@ -6,6 +6,6 @@ use Rattle.syn_term.proofs.symbols.Symbols.push_list.Goals as goal
 
 pub push_two-requires-clause-table : goal.push_two-requires-clause-table
 push_two-requires-clause-table c =
-    list_table c.args.self.now _ c.args.name.now c.args.nil.now c.args.cons.now c.in_ok-sort.first c.in_ok-sort.second c.args.item c.in_ok-sort.sort _ _
-    c.in_ok-from_str.ensures c.in_ok-sort.ensures.sort.0 c.in_ok-sort.ensures.symbols.0 c.in_ok-sort.ensures.symbols.1 c.in-Ok.ensures.nil.1 c.in-Ok.ensures.cons.1
+    list_table c.args.self.now _ c.args.name.now c.args.nil.now c.args.cons.now _ _ c.args.item _ _ _
+    c.in_ok-next.ensures.sort.0 c.in_ok-next.ensures.symbols.0 c.in_ok-next.ensures.symbols.1 c.in_ok-named.ensures.sort.1 c.in_ok-named.ensures.nil.1 c.in_ok-named.ensures.cons.1
     (table_list c.args.self.now c.args.name.now c.args.nil.now c.args.cons.now c.args.item (subst IsTable c.self.view_is c.self.invariant.table) c.requires)

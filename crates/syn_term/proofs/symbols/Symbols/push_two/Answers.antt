@@ -3,17 +3,17 @@ use Rattle.syn_term.proofs.symbols.Symbols.push_two.Goals as goal
 
 pub invariant_of-self : goal.invariant_of-self
 invariant_of-self c =
-    (two_declared c.args.self.now c.self.inside.by_name.entries c.push_room.new.by_name.entries c.self.inside.sorts c.push_room.new.sorts c.self.inside.sizes c.push_room.new.sizes c.self.inside.nat c.args.sort c.args.size
-    c.self.invariant c.self.view_is c.in-Ok.ensures.entries c.in-Ok.ensures.sorts c.in-Ok.ensures.sizes c.requires.sized c.requires.few
-    c.put.new.by_name.entries c.put-in-Ok.new.by_name.entries c.args.makers.0.0 c.args.makers.1.0 c.args.makers.0.1 c.args.makers.1.1 c.requires.table c.requires.own
-    c.put.ensures.entries c.put-in-Ok.ensures.entries).0
+    (two_declared c.args.self.now c.self.inside.by_name.entries c.push_room.new.by_name.entries c.self.inside.sorts c.push_room.new.sorts c.self.inside.sizes.entries c.push_room.new.sizes.entries c.self.inside.nat c.args.sort.0 c.args.sort.1 c.args.size
+    c.self.invariant c.self.view_is c.in-Ok.ensures.entries c.in-Ok.ensures.sorts c.in-Ok.ensures.sizes c.requires.sort c.requires.sized c.requires.few
+    c.put_keyed.new.by_name.entries c.put_keyed-in-Ok.new.by_name.entries c.args.nil.0 c.args.cons.0 c.args.nil.1 c.args.cons.1 c.requires.table c.requires.own
+    c.put_keyed.ensures.entries c.put_keyed-in-Ok.ensures.entries).0
 
 pub returns-in-Ok-clause-ok : goal.returns-in-Ok-clause-ok
 returns-in-Ok-clause-ok c =
-    (two_declared c.args.self.now c.self.inside.by_name.entries c.push_room.new.by_name.entries c.self.inside.sorts c.push_room.new.sorts c.self.inside.sizes c.push_room.new.sizes c.self.inside.nat c.args.sort c.args.size
-    c.self.invariant c.self.view_is c.in-Ok.ensures.entries c.in-Ok.ensures.sorts c.in-Ok.ensures.sizes c.requires.sized c.requires.few
-    c.put.new.by_name.entries c.put-in-Ok.new.by_name.entries c.args.makers.0.0 c.args.makers.1.0 c.args.makers.0.1 c.args.makers.1.1 c.requires.table c.requires.own
-    c.put.ensures.entries c.put-in-Ok.ensures.entries).1
+    (two_declared c.args.self.now c.self.inside.by_name.entries c.push_room.new.by_name.entries c.self.inside.sorts c.push_room.new.sorts c.self.inside.sizes.entries c.push_room.new.sizes.entries c.self.inside.nat c.args.sort.0 c.args.sort.1 c.args.size
+    c.self.invariant c.self.view_is c.in-Ok.ensures.entries c.in-Ok.ensures.sorts c.in-Ok.ensures.sizes c.requires.sort c.requires.sized c.requires.few
+    c.put_keyed.new.by_name.entries c.put_keyed-in-Ok.new.by_name.entries c.args.nil.0 c.args.cons.0 c.args.nil.1 c.args.cons.1 c.requires.table c.requires.own
+    c.put_keyed.ensures.entries c.put_keyed-in-Ok.ensures.entries).1
 
 pub returns-in-Ok-clause-table : goal.returns-in-Ok-clause-table
 returns-in-Ok-clause-table c = (invariant_of-self c).table

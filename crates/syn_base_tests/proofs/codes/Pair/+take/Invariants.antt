@@ -1,4 +1,0 @@
-use Rattle.syn_base_tests.proofs.codes.Pair.+take.Given as goal
-
-abbrev pub decreases-take : goal.decreases-take
-decreases-take l = l.count

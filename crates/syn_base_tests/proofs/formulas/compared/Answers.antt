@@ -1,5 +1,0 @@
-use Rattle.syn_base_tests.proofs.Over.{none_owned}
-use Rattle.syn_base_tests.proofs.formulas.compared.Goals as goal
-
-pub same-requires : goal.same-requires
-same-requires c = none_owned _ _ c.requires.first c.requires.second

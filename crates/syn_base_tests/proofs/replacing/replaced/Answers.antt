@@ -1,5 +1,0 @@
-use Rattle.syn_base_tests.proofs.Over.{none_owned}
-use Rattle.syn_base_tests.proofs.replacing.replaced.Goals as goal
-
-pub replace_all-requires : goal.replace_all-requires
-replace_all-requires c = none_owned _ _ c.requires.first c.requires.second
