@@ -10,6 +10,13 @@ pub mod AxiomLaws
 pub mod OrderLaws
 pub mod WriteOnce
 pub mod LoopLaws
+pub mod InputLaws
+pub mod NameLaws
+pub mod HeadLaws
+pub mod PartLaws
+pub mod SpecSteps
+pub mod TextLoop
+pub mod SpecLoop
 pub mod NumberLaws
 pub mod MonoLaws
 pub mod ParamLaws

@@ -5,13 +5,19 @@
 mod axiom_lines;
 mod cursor;
 mod decl_lines;
+mod inputs;
 mod mono_lines;
 mod naming;
 mod print_decls;
 mod print_lines;
 mod simple_lines;
+mod spec_forms;
+mod spec_head;
+mod spec_lines;
+mod spec_text;
 mod theory_text;
 mod title;
 
 pub use print_lines::print_theory;
+pub use spec_text::read_spec;
 pub use theory_text::read_theory;

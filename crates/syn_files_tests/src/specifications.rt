@@ -18,7 +18,7 @@ spec x // spec x => 2
 spec x // program f(a: nat): z: nat // ensures z = a => yes
 spec f // program f(a: nat): z: nat // ensures z = a => yes
 spec p // program f(a: nat): z: nat // ensures z = a => yes
- // # one // spec x // // program f ( a : nat ) : z : nat # two // \tensures z=a\r => yes
+ // # one // spec x //  // program f ( a : nat ) : z : nat # two // \tensures z=a\r => yes
 spec x // program f(a: nat, b: L, c: P, d: nat): z: L // ensures z = b => yes
 spec x // program f(a: nat, b: nat, c: nat, d: nat, e: nat): z: nat => 2
 spec x // program f(): z: nat => 2

@@ -26,5 +26,6 @@ pub mod NamedSymbols
 pub mod Written
 pub mod SpecLaws
 pub mod SpecAsking
+pub mod BareExtending
 pub mod IndexLaws
 pub mod RowKeys

@@ -8,10 +8,16 @@ use Rattle.syn_term.specs.Names.{IsName}
 use Rattle.syn_term.specs.Symbols.{SymbolTable, IsSort, with_symbol}
 use Rattle.syn_model.specs.declared.decl.Decl.{Decl}
 use Rattle.syn_model.specs.Tables.{IsDeclared, table_of}
+use Rattle.syn_model.specs.declared.heads.Head.{Head as GivenHead}
+use Rattle.syn_model.specs.declared.heads.Param.{Param as GivenParam}
+
 -- an input, with its name and its sort
-pub use Rattle.syn_model.specs.declared.heads.Param.{Param}
+abbrev pub Param : Type 0
+Param = GivenParam
+
 -- the name of a program, its inputs, and the sort of its result
-pub use Rattle.syn_model.specs.declared.heads.Head.{Head as HeadTree}
+abbrev pub HeadTree : Type 0
+HeadTree = GivenHead
 
 -- an input as it is handed in
 abbrev pub given_name : {Z : Type 0} → String Z × Sort → List ℕ

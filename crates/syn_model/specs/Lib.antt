@@ -6,4 +6,5 @@ pub mod BareTrees
 pub mod Declaring
 pub mod Heads
 pub mod Specifications
+pub mod BareParts
 pub mod inner

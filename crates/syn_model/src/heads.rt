@@ -13,17 +13,17 @@ use syn_term::{NoMemory, Sort, Symbols, Text};
 
 /// An input of a program, with its sort.
 #[derive(Drop)]
-pub(crate) struct Param {
-    pub(crate) name: Text,
-    pub(crate) sort: Sort,
+pub struct Param {
+    pub name: Text,
+    pub sort: Sort,
 }
 
 /// The name of a program, its inputs, and the sort of its result.
 #[derive(Drop)]
-pub(crate) struct Head {
-    pub(crate) program: Text,
-    pub(crate) inputs: Items<Param>,
-    pub(crate) result: Sort,
+pub struct Head {
+    pub program: Text,
+    pub inputs: Items<Param>,
+    pub result: Sort,
 }
 
 /// How many inputs a program has at most.

@@ -28,6 +28,7 @@ mod turns;
 mod uses;
 
 pub use decl::Decl;
+pub use heads::{Head, Param};
 pub use spec::Spec;
 pub use spec_part::SpecPart;
 pub use theory::{DeclError, Theory};
