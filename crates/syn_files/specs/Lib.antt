@@ -1,6 +1,0 @@
-pub mod Words
-pub mod TheoryLines
-pub mod SpecLines
-pub mod Printed
-pub mod PrintedSpec
-pub mod inner
