@@ -149,23 +149,16 @@ fn start(alloc: Global, theory: &Theory, params: &str) -> Result<Spec, Fail>
     }
 }
 
-/// The output by its name.
-fn output(alloc: Global) -> Result<Items<(String, Var)>, NoMemory> {
-    let mut names = Items::new(alloc);
+/// `requires`, with a formula that may have the output.
+fn requires_form(alloc: Global, spec: &Spec, text: &str) -> Result<SpecPart, Fail> {
     let z = Var {
         number: 0,
         sort: NAT,
     };
-    names.push((String::from_str(alloc, "z")?, z))?;
-    Ok(names)
-}
-
-/// `requires`, with a formula that may have the output.
-fn requires_form(alloc: Global, spec: &Spec, text: &str) -> Result<SpecPart, Fail> {
-    let names = output(alloc)?;
+    let names = [(String::from_str(alloc, "z")?, z)];
     let scope = Scope {
         syms: spec.symbols(),
-        names: names.as_slice(),
+        names: &names,
         rows: false,
     };
     match read_form(alloc, &mut Bank::new(alloc), &scope, text) {
@@ -175,10 +168,14 @@ fn requires_form(alloc: Global, spec: &Spec, text: &str) -> Result<SpecPart, Fai
 }
 
 fn ensures_form(alloc: Global, spec: &Spec, text: &str) -> Result<SpecPart, Fail> {
-    let names = output(alloc)?;
+    let z = Var {
+        number: 0,
+        sort: NAT,
+    };
+    let names = [(String::from_str(alloc, "z")?, z)];
     let scope = Scope {
         syms: spec.symbols(),
-        names: names.as_slice(),
+        names: &names,
         rows: false,
     };
     match read_qform(alloc, &mut Bank::new(alloc), &scope, text) {
