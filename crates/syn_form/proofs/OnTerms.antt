@@ -20,6 +20,10 @@ chain_bare : (j : Junction) (all : List FormTree) → bare_form (chain j all) �
 chain_bare conjunction all = fold-And bare_form_step all
 chain_bare disjunction all = fold-Or bare_form_step all
 
+-- chains whose members are one but for their places
+pub chain_same : (j : Junction) (xs ys : List FormTree) → map bare_form xs ≡ map bare_form ys → bare_form (chain j xs) ≡ bare_form (chain j ys)
+chain_same j xs ys e = chain_bare j xs ∙ (ap (chain j) e ∙ sym (chain_bare j ys))
+
 module _ (g : TermTree → TermTree) where
   pub on_terms-chain : (j : Junction) (all : List FormTree) → on_terms g (chain j all) ≡ chain j (map (on_terms g) all)
   on_terms-chain conjunction all = fold-And (on_terms_step g) all
@@ -90,11 +94,8 @@ module _ (f : FormTree) (m n : ℕ) where
   pub made_chain : (j : Junction) (all xs : List FormTree) → f ≡ chain j all → xs ≡ all → n ≤ m + sum (map terms_size xs) → n ≤ m + terms_size f
   made_chain j all xs is same h = let e = size-chain f j all xs is same in omega arith
 
-  pub made_left : (a b x : FormTree) → f ≡ view.Implies a b → x ≡ a → n ≤ m + terms_size x → n ≤ m + terms_size f
-  made_left a b x is k h = let e = size-Implies f a b x b is k refl in omega arith
-
-  pub made_both : (a b x y : FormTree) (l : ℕ) → f ≡ view.Implies a b → x ≡ a → y ≡ b → l ≤ m + terms_size x → n ≤ l + terms_size y → n ≤ m + terms_size f
-  made_both a b x y l is k o h i = let e = size-Implies f a b x y is k o in omega arith
+  pub made_both : (a b x y : FormTree) → f ≡ view.Implies a b → x ≡ a → y ≡ b → n ≤ m + (terms_size x + terms_size y) → n ≤ m + terms_size f
+  made_both a b x y is k l h = let e = size-Implies f a b x y is k l in omega arith
 
 module _ (P : TermTree → Type 0) where
   -- what holds of the terms of the parts holds of those of the whole

@@ -2,15 +2,16 @@
 ghost use Rattle.std.specs.Prelude.{◌≡◌, ◌↔◌, ◌+◌, ◌++◌, max, min, map, sum, slice_get, IfOk, IsTrue};
 ghost use Rattle.std.specs.Option.{option_map};
 ghost use Rattle.syn_term.specs.Terms.{bare, depth_of, greatest, nodes};
+ghost use Rattle.syn_form.specs.declared.trees.Form.TheVariants as form;
 ghost use Rattle.syn_form.specs.declared.trees.Form.TheViews as views;
 ghost use Rattle.syn_form.specs.Positions.{formula, part_at, parts_of, at_position, seen, term};
 ghost use Rattle.syn_form.specs.Same.{OfOneBank, SameFormMeansEqual};
 ghost use Rattle.syn_form.specs.Trees.{all_of, bare_form, form_depth, form_nodes, form_terms};
 
 use crate::trees::{Form, Part};
-use sqlite_items::at;
+use sqlite_items::{Items, at};
 use std::alloc::Global;
-use syn_term::{NoMemory, Pos, Shared, Term};
+use syn_term::{NoMemory, Pos, Shared, SymId, Term};
 
 impl Form {
     /// The same formula once more. It takes no memory; the one error, NoMemory, is that a pointer's
@@ -198,20 +199,106 @@ impl Form {
         requires { OfOneBank (form_terms self.now ++ form_terms other.now) }
         ensures { IsTrue result ↔ (bare_form self.now ≡ bare_form other.now) }
     {
-        match (self, other) {
-            (Form::True, Form::True) | (Form::False, Form::False) => true,
-            (Form::Atom(r, xs), Form::Atom(q, ys)) => {
-                *r == *q && same_terms(xs.get().as_slice(), ys.get().as_slice())
+        match self {
+            Form::True => other.is_true(),
+            Form::False => other.is_false(),
+            Form::Atom(r, args) => other.is_atom_of(*r, args),
+            Form::Equal(s, t) => other.is_equality_of(s, t),
+            Form::Not(a) => other.is_negation_of(a),
+            Form::And(all) => other.is_and_of(all),
+            Form::Or(all) => other.is_or_of(all),
+            Form::Implies(a, b) => other.is_implication_of(a, b),
+        }
+    }
+
+    /// Whether this is `true`.
+    fn is_true(&self) -> bool
+        ensures { IsTrue result ↔ (bare_form form.True ≡ bare_form self.now) }
+    {
+        match self {
+            Form::True => true,
+            _ => false,
+        }
+    }
+
+    /// Whether this is `false`.
+    fn is_false(&self) -> bool
+        ensures { IsTrue result ↔ (bare_form form.False ≡ bare_form self.now) }
+    {
+        match self {
+            Form::False => true,
+            _ => false,
+        }
+    }
+
+    /// Whether this is the atom of the symbol and the terms.
+    fn is_atom_of(&self, r: SymId, args: &Shared<Items<Term>>) -> bool
+        requires { OfOneBank (form_terms (form.Atom r args.now) ++ form_terms self.now) }
+        ensures { IsTrue result ↔ (bare_form (form.Atom r args.now) ≡ bare_form self.now) }
+    {
+        match self {
+            Form::Atom(q, terms) => {
+                r == *q && same_terms(args.get().as_slice(), terms.get().as_slice())
             }
-            (Form::Equal(s, t), Form::Equal(u, v)) => s.same(u) && t.same(v),
-            (Form::Not(a), Form::Not(b)) => a.get().is_one(b.get()),
-            (Form::And(xs), Form::And(ys)) => {
-                same_forms(xs.get().as_slice(), ys.get().as_slice())
-            }
-            (Form::Or(xs), Form::Or(ys)) => { same_forms(xs.get().as_slice(), ys.get().as_slice()) }
-            (Form::Implies(a, b), Form::Implies(c, d)) => {
-                a.get().is_one(c.get()) && b.get().is_one(d.get())
-            }
+            _ => false,
+        }
+    }
+
+    /// Whether this is the equality of the terms, left and right.
+    fn is_equality_of(&self, s: &Term, t: &Term) -> bool
+        requires { OfOneBank (form_terms (form.Equal s.now t.now) ++ form_terms self.now) }
+        ensures { IsTrue result ↔ (bare_form (form.Equal s.now t.now) ≡ bare_form self.now) }
+    {
+        match self {
+            Form::Equal(u, v) => s.same(u) && t.same(v),
+            _ => false,
+        }
+    }
+
+    /// Whether this is the negation of the formula.
+    #[cycle(same)]
+    fn is_negation_of(&self, a: &Shared<Form>) -> bool
+        requires { OfOneBank (form_terms (views.Not a.now) ++ form_terms self.now) }
+        ensures { IsTrue result ↔ (bare_form (views.Not a.now) ≡ bare_form self.now) }
+    {
+        match self {
+            Form::Not(b) => a.get().is_one(b.get()),
+            _ => false,
+        }
+    }
+
+    /// Whether this is the `and` of the formulas.
+    #[cycle(same)]
+    fn is_and_of(&self, all: &Shared<Items<Form>>) -> bool
+        requires { OfOneBank (form_terms (views.And all.now) ++ form_terms self.now) }
+        ensures { IsTrue result ↔ (bare_form (views.And all.now) ≡ bare_form self.now) }
+    {
+        match self {
+            Form::And(these) => same_forms(all.get().as_slice(), these.get().as_slice()),
+            _ => false,
+        }
+    }
+
+    /// Whether this is the `or` of the formulas.
+    #[cycle(same)]
+    fn is_or_of(&self, all: &Shared<Items<Form>>) -> bool
+        requires { OfOneBank (form_terms (views.Or all.now) ++ form_terms self.now) }
+        ensures { IsTrue result ↔ (bare_form (views.Or all.now) ≡ bare_form self.now) }
+    {
+        match self {
+            Form::Or(these) => same_forms(all.get().as_slice(), these.get().as_slice()),
+            _ => false,
+        }
+    }
+
+    /// Whether this is the implication from the first to the second.
+    #[cycle(same)]
+    fn is_implication_of(&self, a: &Shared<Form>, b: &Shared<Form>) -> bool
+        requires { OfOneBank (form_terms (views.Implies a.now b.now) ++ form_terms self.now) }
+        ensures { IsTrue result ↔ (bare_form (views.Implies a.now b.now) ≡ bare_form self.now) }
+    {
+        match self {
+            Form::Implies(x, y) => a.get().is_one(x.get()) && b.get().is_one(y.get()),
             _ => false,
         }
     }

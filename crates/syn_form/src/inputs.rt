@@ -5,13 +5,16 @@ ghost use Rattle.std.specs.Option.{option_copied};
 ghost use Rattle.syn_term.specs.Bank.{Belongs, Extends};
 ghost use Rattle.syn_term.specs.Terms.{bare, nodes};
 ghost use Rattle.syn_form.specs.declared.trees.Form.TheVariants as form;
+ghost use Rattle.syn_form.specs.declared.trees.Form.TheViews as views;
 ghost use Rattle.syn_form.specs.Inputs.{AreInputs, InputsBelong, IsInput, form_with_inputs, listed_term, terms_size, with_inputs};
 ghost use Rattle.syn_form.specs.InputLaws.{PutsInputs};
-ghost use Rattle.syn_form.specs.inner.Joining.{terms_of};
+ghost use Rattle.syn_form.specs.inner.Joining.{joining, terms_of};
 ghost use Rattle.syn_form.specs.Plain.{IsFormed, IsSorted};
+ghost use Rattle.syn_form.specs.Simplification as rules;
 ghost use Rattle.syn_form.specs.Trees.{bare_form, form_terms};
 
 use crate::form::{implication_of, negation_of};
+use crate::joins::{Junction, chained};
 use crate::trees::Form;
 use sqlite_items::Items;
 use std::alloc::Global;
@@ -55,6 +58,16 @@ fn listed(inputs: &[(SymId, Term)], f: SymId) -> Option<&Term>
     }
 }
 
+/// The term once more.
+fn term_again(t: &Term) -> Result<Term, NoMemory>
+    ensures { IfOk result (λ u. u ≡ t.now) }
+{
+    match t.again() {
+        Ok(t) => Ok(t),
+        Err(_) => Err(NoMemory),
+    }
+}
+
 /// The term with each listed symbol replaced.
 #[cycle(terms)]
 #[tactic(auto, using(crate::proofs::InputTerms::growth))]
@@ -76,12 +89,15 @@ fn put_in_term(
     match t.get() {
         Node::Var(_, v) => bank.var(alloc, *v),
         Node::App(_, f, args) => match listed(inputs, *f) {
-            Some(term) => Ok(term.again()?),
+            Some(term) => term_again(term),
             None => {
                 let parts = put_in_terms(bank, alloc, syms, args.as_slice(), inputs)?;
-                match bank.app(alloc, syms, *f, parts.as_slice())? {
-                    Some(made) => Ok(made),
-                    None => unreachable!(),
+                let made = bank.app(alloc, syms, *f, parts.as_slice());
+                drop(parts);
+                match made {
+                    Ok(Some(made)) => Ok(made),
+                    Ok(None) => unreachable!(),
+                    Err(error) => Err(error),
                 }
             }
         },
@@ -186,24 +202,82 @@ fn put_in_form(
             Ok(a) => negation_of(alloc, a),
             other => other,
         },
-        Form::And(all) => match put_in_forms(bank, alloc, syms, all.get().as_slice(), inputs) {
-            Ok(all) => Ok(Form::And(all)),
-            Err(error) => Err(error),
-        },
-        Form::Or(all) => match put_in_forms(bank, alloc, syms, all.get().as_slice(), inputs) {
-            Ok(all) => Ok(Form::Or(all)),
-            Err(error) => Err(error),
-        },
-        Form::Implies(a, b) => {
-            let a = put_in_form(bank, alloc, syms, a.get(), inputs)?;
-            match put_in_form(bank, alloc, syms, b.get(), inputs) {
-                Ok(b) => implication_of(alloc, a, b),
-                other => {
-                    drop(a);
-                    other
-                }
-            }
+        Form::And(all) => {
+            put_in_chain(
+                bank,
+                alloc,
+                syms,
+                Junction::And,
+                all.get().as_slice(),
+                inputs,
+            )
         }
+        Form::Or(all) => {
+            put_in_chain(
+                bank,
+                alloc,
+                syms,
+                Junction::Or,
+                all.get().as_slice(),
+                inputs,
+            )
+        }
+        Form::Implies(a, b) => put_in_sides(bank, alloc, syms, a.get(), b.get(), inputs),
+    }
+}
+
+/// The implication, with each listed symbol replaced in both sides.
+#[cycle(forms)]
+#[tactic(auto, using(crate::proofs::InputTerms::growth))]
+fn put_in_sides(
+    bank: &mut Bank,
+    alloc: Global,
+    syms: &Symbols,
+    a: &Form,
+    b: &Form,
+    inputs: &[(SymId, Term)],
+) -> Result<Form, NoMemory>
+    requires inputs { AreInputs syms.now inputs.now }
+    requires left { IsFormed syms.now a.now }
+    requires right { IsFormed syms.now b.now }
+    requires own { InputsBelong bank.old inputs.now }
+    ensures tree { IfOk result (λ g. bare_form g ≡ views.Implies (bare_form (form_with_inputs inputs.now a.now)) (bare_form (form_with_inputs inputs.now b.now))) }
+    ensures made { bank.new.made ≤ bank.old.made + (terms_size a.now + terms_size b.now) }
+    ensures extends { Extends bank.old bank.new }
+    ensures belongs { IfOk result (λ g. All (Belongs bank.new) (form_terms g)) }
+{
+    let a = put_in_form(bank, alloc, syms, a, inputs)?;
+    match put_in_form(bank, alloc, syms, b, inputs) {
+        Ok(b) => implication_of(alloc, a, b),
+        other => {
+            drop(a);
+            other
+        }
+    }
+}
+
+/// The chain of these members, with each listed symbol replaced in all of them.
+#[cycle(forms)]
+#[tactic(auto, using(crate::proofs::InputTerms::growth))]
+fn put_in_chain(
+    bank: &mut Bank,
+    alloc: Global,
+    syms: &Symbols,
+    j: Junction,
+    fs: &[Form],
+    inputs: &[(SymId, Term)],
+) -> Result<Form, NoMemory>
+    requires inputs { AreInputs syms.now inputs.now }
+    requires formed { All (IsFormed syms.now) fs.now }
+    requires own { InputsBelong bank.old inputs.now }
+    ensures tree { IfOk result (λ g. bare_form g ≡ bare_form (rules.chain (joining j) (map (form_with_inputs inputs.now) fs.now))) }
+    ensures made { bank.new.made ≤ bank.old.made + sum (map terms_size fs.now) }
+    ensures extends { Extends bank.old bank.new }
+    ensures belongs { IfOk result (λ g. All (Belongs bank.new) (form_terms g)) }
+{
+    match put_in_forms(bank, alloc, syms, fs, inputs) {
+        Ok(members) => chained(alloc, j, members),
+        Err(error) => Err(error),
     }
 }
 
@@ -216,7 +290,7 @@ fn put_in_forms(
     syms: &Symbols,
     fs: &[Form],
     inputs: &[(SymId, Term)],
-) -> Result<Shared<Items<Form>>, NoMemory>
+) -> Result<Items<Form>, NoMemory>
     requires inputs { AreInputs syms.now inputs.now }
     requires formed { All (IsFormed syms.now) fs.now }
     requires own { InputsBelong bank.old inputs.now }
@@ -229,7 +303,7 @@ fn put_in_forms(
     for f in fs {
         done.push(put_in_form(bank, alloc, syms, f, inputs)?)?;
     }
-    Ok(Shared::new(alloc, done)?)
+    Ok(done)
 }
 
 /// The formula with each listed input symbol replaced by its term, everywhere at once: what stands in

@@ -208,6 +208,16 @@ fn is_decided(j: Junction, fs: &[Form]) -> bool
     contains_both(fs)
 }
 
+/// The chain of these members, however many they are.
+pub(crate) fn chained(alloc: Global, j: Junction, members: Items<Form>) -> Result<Form, NoMemory>
+    ensures { IfOk result (λ f. f ≡ rules.chain (joining j) members) }
+{
+    match Shared::new(alloc, members) {
+        Ok(members) => Ok(j.chain(members)),
+        Err(_) => Err(NoMemory),
+    }
+}
+
 /// The chain of so many members: what it is without any, the one, or the chain.
 fn chain_of(alloc: Global, j: Junction, members: Items<Form>) -> Result<Form, NoMemory>
     ensures { IfOk result (λ f. f ≡ rules.chain_of (joining j) members) }

@@ -1,10 +1,11 @@
 // A formula with quantifiers once more.
 ghost use Rattle.std.specs.Prelude.{◌≡◌, IfOk};
+ghost use Rattle.syn_form.specs.declared.trees.QForm.TheVariants as variants;
 ghost use Rattle.syn_form.specs.declared.trees.QForm.TheViews as views;
 
 use crate::form::both_again;
 use crate::trees::{Binder, QForm};
-use syn_term::{NoMemory, Shared};
+use syn_term::{NoMemory, Shared, Term};
 
 impl Binder {
     /// The same binder once more, its name in memory of its own.
@@ -31,18 +32,12 @@ impl QForm {
                 Ok(args) => Ok(QForm::Atom(*r, args)),
                 Err(_) => Err(NoMemory),
             },
-            QForm::Equal(s, t) => match both_again(s, t) {
-                Ok((s, t)) => Ok(QForm::Equal(s, t)),
-                Err(error) => Err(error),
-            },
+            QForm::Equal(s, t) => equality_again(s, t),
             QForm::Not(a) => match a.again() {
                 Ok(a) => Ok(QForm::Not(a)),
                 Err(_) => Err(NoMemory),
             },
-            QForm::Implies(a, b) => match both_again(a, b) {
-                Ok((a, b)) => Ok(QForm::Implies(a, b)),
-                Err(error) => Err(error),
-            },
+            QForm::Implies(a, b) => implication_again(a, b),
             QForm::And(all) => match all.again() {
                 Ok(all) => Ok(QForm::And(all)),
                 Err(_) => Err(NoMemory),
@@ -54,6 +49,24 @@ impl QForm {
             QForm::All(b, a) => all_again(b, a),
             QForm::Exists(b, a) => exists_again(b, a),
         }
+    }
+}
+
+fn equality_again(s: &Term, t: &Term) -> Result<QForm, NoMemory>
+    ensures { IfOk result (λ g. g ≡ variants.Equal s.now t.now) }
+{
+    match both_again(s, t) {
+        Ok((s, t)) => Ok(QForm::Equal(s, t)),
+        Err(error) => Err(error),
+    }
+}
+
+fn implication_again(a: &Shared<QForm>, b: &Shared<QForm>) -> Result<QForm, NoMemory>
+    ensures { IfOk result (λ g. g ≡ views.Implies a.now b.now) }
+{
+    match both_again(a, b) {
+        Ok((a, b)) => Ok(QForm::Implies(a, b)),
+        Err(error) => Err(error),
     }
 }
 

@@ -1,17 +1,18 @@
 // Formulas with some of their subformulas replaced by a truth value.
 ghost use Rattle.std.specs.Prelude.{◌≡◌, ◌++◌, map, IfOk};
-ghost use Rattle.syn_form.specs.inner.Joining.{terms_of};
+ghost use Rattle.syn_form.specs.inner.Joining.{joining, terms_of};
 ghost use Rattle.syn_form.specs.Replacing.{replaced_all, truth_form};
 ghost use Rattle.syn_form.specs.ReplacingLaws.{ReplacesAll};
 ghost use Rattle.syn_form.specs.Same.{OfOneBank};
+ghost use Rattle.syn_form.specs.Simplification as rules;
 ghost use Rattle.syn_form.specs.Trees.{form_terms};
 
 use crate::form::{implication_of, negation_of};
-use crate::joins::is_same;
+use crate::joins::{Junction, chained, is_same};
 use crate::trees::Form;
 use sqlite_items::Items;
 use std::alloc::Global;
-use syn_term::{NoMemory, Shared};
+use syn_term::NoMemory;
 
 /// `true` or `false`.
 fn constant(by: bool) -> Form
@@ -38,14 +39,8 @@ fn replaced(alloc: Global, f: &Form, part: &Form, by: bool) -> Result<Form, NoMe
             Ok(a) => negation_of(alloc, a),
             other => other,
         },
-        Form::And(all) => match replaced_members(alloc, all.get().as_slice(), part, by) {
-            Ok(all) => Ok(Form::And(all)),
-            Err(error) => Err(error),
-        },
-        Form::Or(all) => match replaced_members(alloc, all.get().as_slice(), part, by) {
-            Ok(all) => Ok(Form::Or(all)),
-            Err(error) => Err(error),
-        },
+        Form::And(all) => replaced_chain(alloc, Junction::And, all.get().as_slice(), part, by),
+        Form::Or(all) => replaced_chain(alloc, Junction::Or, all.get().as_slice(), part, by),
         Form::Implies(a, b) => {
             let a = replaced(alloc, a.get(), part, by)?;
             match replaced(alloc, b.get(), part, by) {
@@ -59,6 +54,24 @@ fn replaced(alloc: Global, f: &Form, part: &Form, by: bool) -> Result<Form, NoMe
     }
 }
 
+/// The chain of these members, with the part replaced in each.
+#[cycle(forms)]
+fn replaced_chain(
+    alloc: Global,
+    j: Junction,
+    fs: &[Form],
+    part: &Form,
+    by: bool,
+) -> Result<Form, NoMemory>
+    requires { OfOneBank (terms_of fs.now ++ form_terms part.now) }
+    ensures { IfOk result (λ g. g ≡ rules.chain (joining j) (map (replaced_all part.now by) fs.now)) }
+{
+    match replaced_members(alloc, fs, part, by) {
+        Ok(members) => chained(alloc, j, members),
+        Err(error) => Err(error),
+    }
+}
+
 /// The same for each of the formulas.
 #[cycle(forms)]
 fn replaced_members(
@@ -66,7 +79,7 @@ fn replaced_members(
     fs: &[Form],
     part: &Form,
     by: bool,
-) -> Result<Shared<Items<Form>>, NoMemory>
+) -> Result<Items<Form>, NoMemory>
     requires { OfOneBank (terms_of fs.now ++ form_terms part.now) }
     ensures { IfOk result (λ gs. gs ≡ map (replaced_all part.now by) fs.now) }
 {
@@ -74,7 +87,7 @@ fn replaced_members(
     for f in fs {
         done.push(replaced(alloc, f, part, by)?)?;
     }
-    Ok(Shared::new(alloc, done)?)
+    Ok(done)
 }
 
 /// The formula with each subformula that is the same as `part` replaced by `true` or `false`, from

@@ -145,13 +145,58 @@ fn is_same_out(u: &Out, v: &Out) -> bool
     u.same(v)
 }
 
+/// The formula once more, behind a pointer.
+fn shared_form(alloc: Global, f: &Form) -> Result<Shared<Form>, NoMemory>
+    ensures { IfOk result (λ g. g ≡ f.now) }
+{
+    match f.again() {
+        Ok(f) => match Shared::new(alloc, f) {
+            Ok(f) => Ok(f),
+            Err(_) => Err(NoMemory),
+        },
+        Err(error) => Err(error),
+    }
+}
+
+/// The output once more, behind a pointer.
+fn shared_out(alloc: Global, o: &Out) -> Result<Shared<Out>, NoMemory>
+    ensures { IfOk result (λ p. p ≡ o.now) }
+{
+    match o.again() {
+        Ok(o) => match Shared::new(alloc, o) {
+            Ok(o) => Ok(o),
+            Err(_) => Err(NoMemory),
+        },
+        Err(error) => Err(error),
+    }
+}
+
+/// The arms of a choice once more, each behind a pointer.
+fn shared_arms(alloc: Global, u: &Out, v: &Out) -> Result<(Shared<Out>, Shared<Out>), NoMemory>
+    ensures { IfOk result (λ both. (both.0 ≡ u.now) × (both.1 ≡ v.now)) }
+{
+    let u = shared_out(alloc, u)?;
+    match shared_out(alloc, v) {
+        Ok(v) => Ok((u, v)),
+        Err(error) => {
+            drop(u);
+            Err(error)
+        }
+    }
+}
+
 /// The choice as it is.
 fn kept_choice(alloc: Global, f: &Form, u: &Out, v: &Out) -> Result<Out, NoMemory>
     ensures { IfOk result (λ o. o ≡ views.If f.now u.now v.now) }
 {
-    let f = Shared::new(alloc, f.again()?)?;
-    let u = Shared::new(alloc, u.again()?)?;
-    Ok(Out::If(f, u, Shared::new(alloc, v.again()?)?))
+    let f = shared_form(alloc, f)?;
+    match shared_arms(alloc, u, v) {
+        Ok((u, v)) => Ok(Out::If(f, u, v)),
+        Err(error) => {
+            drop(f);
+            Err(error)
+        }
+    }
 }
 
 /// `if f then u else v`, where f is neither `true` nor `false`.

@@ -1,5 +1,5 @@
 // The variables of trees, and whether each number has one sort among them.
-ghost use Rattle.std.specs.Prelude.{◌≡◌, ◌↔◌, ◌++◌, nat_eq, IfOk, IsTrue, OnOk};
+ghost use Rattle.std.specs.Prelude.{◌≡◌, ◌↔◌, [], ◌∷◌, ◌++◌, nat_eq, IfOk, IsTrue, OnOk};
 ghost use Rattle.std.specs.List.{flat_map};
 ghost use Rattle.indexmap.specs.IndexMap.{get};
 ghost use Rattle.syn_form.specs.Plain.{HasOneSortEach};
@@ -50,6 +50,16 @@ fn have_one_sort_each(alloc: Global, vars: &[Var]) -> Result<bool, NoMemory>
     Ok(true)
 }
 
+/// Puts the variable behind the others.
+fn put_var(vars: &mut Items<Var>, v: Var) -> Result<(), NoMemory>
+    ensures { OnOk result (vars.new ≡ vars.old ++ v ∷ []) }
+{
+    match vars.push(v) {
+        Ok(()) => Ok(()),
+        Err(_) => Err(NoMemory),
+    }
+}
+
 /// Puts the variables of the term behind the others.
 #[cycle(terms)]
 fn put_term_vars(vars: &mut Items<Var>, t: &Term) -> Result<(), NoMemory>
@@ -72,6 +82,14 @@ pub fn put_all_vars(vars: &mut Items<Var>, terms: &[Term]) -> Result<(), NoMemor
     Ok(())
 }
 
+/// Puts the variables of both terms behind the others.
+fn put_two_terms_vars(vars: &mut Items<Var>, s: &Term, t: &Term) -> Result<(), NoMemory>
+    ensures { OnOk result (vars.new ≡ vars.old ++ (term_vars s.now ++ term_vars t.now)) }
+{
+    put_term_vars(vars, s)?;
+    put_term_vars(vars, t)
+}
+
 /// Puts the variables of the formula behind the others.
 #[cycle(forms)]
 fn put_form_vars(vars: &mut Items<Var>, f: &Form) -> Result<(), NoMemory>
@@ -80,10 +98,7 @@ fn put_form_vars(vars: &mut Items<Var>, f: &Form) -> Result<(), NoMemory>
     match f {
         Form::True | Form::False => Ok(()),
         Form::Atom(_, args) => put_all_vars(vars, args.get().as_slice()),
-        Form::Equal(s, t) => {
-            put_term_vars(vars, s)?;
-            put_term_vars(vars, t)
-        }
+        Form::Equal(s, t) => put_two_terms_vars(vars, s, t),
         Form::Not(a) => put_form_vars(vars, a.get()),
         Form::And(all) | Form::Or(all) => put_forms_vars(vars, all.get().as_slice()),
         Form::Implies(a, b) => {
@@ -112,21 +127,24 @@ fn put_qform_vars(vars: &mut Items<Var>, f: &QForm) -> Result<(), NoMemory>
     match f {
         QForm::True | QForm::False => Ok(()),
         QForm::Atom(_, args) => put_all_vars(vars, args.get().as_slice()),
-        QForm::Equal(s, t) => {
-            put_term_vars(vars, s)?;
-            put_term_vars(vars, t)
-        }
+        QForm::Equal(s, t) => put_two_terms_vars(vars, s, t),
         QForm::Not(a) => put_qform_vars(vars, a.get()),
         QForm::And(all) | QForm::Or(all) => put_qforms_vars(vars, all.get().as_slice()),
         QForm::Implies(a, b) => {
             put_qform_vars(vars, a.get())?;
             put_qform_vars(vars, b.get())
         }
-        QForm::All(b, a) | QForm::Exists(b, a) => {
-            vars.push(b.var)?;
-            put_qform_vars(vars, a.get())
-        }
+        QForm::All(b, a) | QForm::Exists(b, a) => put_bound_vars(vars, b.var, a.get()),
     }
+}
+
+/// Puts the variable of a quantifier behind the others, and those of its formula.
+#[cycle(qforms)]
+fn put_bound_vars(vars: &mut Items<Var>, v: Var, a: &QForm) -> Result<(), NoMemory>
+    ensures { OnOk result (vars.new ≡ vars.old ++ v ∷ qform_vars a.now) }
+{
+    put_var(vars, v)?;
+    put_qform_vars(vars, a)
 }
 
 /// Puts the variables of the formulas behind the others, those of their binders too.

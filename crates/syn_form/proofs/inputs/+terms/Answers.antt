@@ -1,4 +1,5 @@
-use Rattle.std.proofs.Common.{◌+◌, ◌*◌, ◌<◌, ◌∙◌, length, map, sum, Some, refl, sym, ap, arith}
+use Rattle.std.proofs.Common.{◌+◌, ◌*◌, ◌<◌, ◌∙◌, length, map, sum, ◌≡◌, None, Some, refl, sym, ap, arith}
+use Rattle.std.proofs.lemmas.Result.{IfOk-weaker}
 use Rattle.syn_term.specs.Bank.{Extends-trans}
 use Rattle.syn_term.specs.Terms.{bare, nodes}
 use Rattle.syn_form.specs.Inputs.{with_inputs}
@@ -18,11 +19,12 @@ put_in_term-put_in_terms-requires t c =
 pub put_in_term-unreachable-requires : goal.put_in_term-unreachable-requires
 put_in_term-unreachable-requires t c =
     let is = sym c.get.ensures ∙ c.in-App.is in
-    refused _ _ _ c.in-None-2.is c.in_ok-made-in-None.ensures.tree
+    let none : c.in-Ok-None.field-0 ≡ None = cc in
+    refused _ _ _ none c.in-Ok-None.ensures.tree
     (applies_still _ _ c.requires.inputs _ _ _ _ _ _ is c.as_slice.ensures c.requires.sorted (ap (map bare) c.as_slice-in-None.ensures ∙ c.in_ok-parts-in-None.ensures.tree))
 
-pub put_in_term-returns-in_ok-again-in-Some-clause-belongs : goal.put_in_term-returns-in_ok-again-in-Some-clause-belongs
-put_in_term-returns-in_ok-again-in-Some-clause-belongs t c = listed_belongs _ _ _ _ (sym c.in-Some.ensures ∙ ap Some (sym c.in_ok-again-in-Some.ensures)) c.requires.own
+pub put_in_term-returns-in-Some-clause-belongs : goal.put_in_term-returns-in-Some-clause-belongs
+put_in_term-returns-in-Some-clause-belongs t c = IfOk-weaker c.term_again.result _ _ (λ u e. listed_belongs _ _ _ _ (sym c.in-Some.ensures ∙ ap Some (sym e)) c.requires.own) c.term_again.ensures
 
 pub put_in_terms-put_in_term-requires : goal.put_in_terms-put_in_term-requires
 put_in_terms-put_in_term-requires t c =

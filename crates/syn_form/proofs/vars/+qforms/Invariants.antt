@@ -10,5 +10,8 @@ decreases-put_qform_vars l = 2 * goal.size-put_qform_vars l
 abbrev pub decreases-put_qforms_vars : goal.decreases-put_qforms_vars
 decreases-put_qforms_vars l = 2 * goal.size-put_qforms_vars l + 1
 
+abbrev pub decreases-put_bound_vars : goal.decreases-put_bound_vars
+decreases-put_bound_vars l = 2 * goal.size-put_bound_vars l + 1
+
 abbrev pub invariant-put_qforms_vars-loop-f : goal.invariant-put_qforms_vars-loop-f
 invariant-put_qforms_vars-loop-f l = l.vars ≡ l.initial.vars ++ flat_map qform_vars (take l.f-index l.all)
