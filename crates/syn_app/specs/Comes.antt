@@ -5,6 +5,7 @@ use Rattle.std.specs.Prelude.{◌≡◌, ◌⊎◌, ℕ, ◌<◌, ◌≤◌, Lis
 use Rattle.syn_outside.specs.Files.{File, Told}
 use Rattle.syn_outside.specs.Faults.{HasCause, Rose}
 use Rattle.syn_outside.specs.Texts.{Adds, AddsPrefix}
+use Rattle.syn_app.specs.Bounds.{most_bytes}
 use Rattle.syn_app.specs.Trees.{TheoryTree, SpecTree, ProgramTree}
 use Rattle.syn_app.specs.ProgramText.{printed_program}
 use Rattle.syn_app.specs.declared.flat.Entry.{Entry}
@@ -47,12 +48,12 @@ file_name n which.Derivation = n.deriv
 abbrev pub AreWords : List (List ℕ) → FileNames → Type 0
 AreWords words n = IsCheck words n.theory n.spec n.deriv
 
--- a file of at most 4,194,304 bytes, and one of more
+-- a file of at most `most_bytes` bytes, and one of more
 abbrev pub IsShort : List ℕ → Type 0
-IsShort bytes = length bytes ≤ 4194304
+IsShort bytes = length bytes ≤ most_bytes
 
 abbrev pub IsLong : List ℕ → Type 0
-IsLong bytes = 4194304 < length bytes
+IsLong bytes = most_bytes < length bytes
 
 -- the bytes of the file have the property, where files are told
 abbrev pub OfTheory : Option (List File) → FileNames → (List ℕ → Type 0) → Type 0

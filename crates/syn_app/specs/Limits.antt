@@ -2,6 +2,7 @@
 -- and output count together; the instances of a step have at most 65,536 nodes and are at most 2,400 deep.
 use Rattle.std.specs.Prelude.{ℕ, ◌+◌, ◌≤◌, max}
 use Rattle.syn_term.specs.Terms.{TermTree, nodes, depth_of}
+use Rattle.syn_app.specs.Bounds.{most_levels, most_nodes, most_step_levels, most_step_nodes}
 use Rattle.syn_app.specs.declared.trees.Form.TheVariants as form
 use Rattle.syn_app.specs.declared.trees.Out.TheVariants as out
 use Rattle.syn_app.specs.Trees.{FormTree, OutTree}
@@ -23,10 +24,10 @@ out_depth (out.Give t) = depth_of t
 
 -- a formula, and a term, within the limit of an expression
 abbrev pub FitsForm : FormTree → Type 0
-FitsForm f = (form_nodes f ≤ 4096) × (form_depth f ≤ 1200)
+FitsForm f = (form_nodes f ≤ most_nodes) × (form_depth f ≤ most_levels)
 
 abbrev pub FitsTerm : TermTree → Type 0
-FitsTerm t = (nodes t ≤ 4096) × (depth_of t ≤ 1200)
+FitsTerm t = (nodes t ≤ most_nodes) × (depth_of t ≤ most_levels)
 
 -- the nodes of formula and output, added up, and the greater of their depths
 abbrev pub row_nodes : Row → ℕ
@@ -37,7 +38,7 @@ row_depth r = max (form_depth r.form) (out_depth r.out)
 
 -- within the limit of a row, and of a step
 abbrev pub FitsRow : Row → Type 0
-FitsRow r = (row_nodes r ≤ 4096) × (row_depth r ≤ 1200)
+FitsRow r = (row_nodes r ≤ most_nodes) × (row_depth r ≤ most_levels)
 
 abbrev pub FitsStep : Row → Type 0
-FitsStep r = (row_nodes r ≤ 65536) × (row_depth r ≤ 2400)
+FitsStep r = (row_nodes r ≤ most_step_nodes) × (row_depth r ≤ most_step_levels)

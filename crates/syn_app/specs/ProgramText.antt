@@ -11,6 +11,7 @@ use Rattle.syn_term.specs.declared.term.Node.{fold-Node}
 use Rattle.syn_term.specs.declared.term.Node.TheOpen.{Node-F}
 use Rattle.syn_term.specs.Symbols.{SymbolTable, symbol_at}
 use Rattle.syn_term.specs.Terms.{TermTree}
+use Rattle.syn_app.specs.Bounds.{largest_numeral}
 use Rattle.syn_app.specs.declared.trees.Out.TheVariants as out
 use Rattle.syn_app.specs.Trees.{OutTree, Declared, TheoryTree, ProgramTree, program_symbols}
 
@@ -34,14 +35,14 @@ abbrev pub applied_text : List ℕ → List Printed → Printed
 applied_text name [] = record { text = name; number = None }
 applied_text name (p ∷ ps) = record { text = name ++ codes "(" ++ joined (codes ", ") (texts_of (p ∷ ps)) ++ codes ")"; number = None }
 
--- a number up to 1,000
+-- a number up to `largest_numeral`
 abbrev pub number_text : ℕ → Printed
 number_text n = record { text = decimal n; number = Some n }
 
--- the successor of a number up to 999 is the next number; any other is `s(..)`
+-- the successor of a number below `largest_numeral` is the next number; any other is `s(..)`
 abbrev pub successor_text : List ℕ → Printed → Option ℕ → Printed
 successor_text name p None = applied_text name (p ∷ [])
-successor_text name p (Some n) = if nat_lt n 1000 then number_text (n + 1) else applied_text name (p ∷ [])
+successor_text name p (Some n) = if nat_lt n largest_numeral then number_text (n + 1) else applied_text name (p ∷ [])
 
 abbrev pub symbol_text : Kind → List ℕ → List Printed → Printed
 symbol_text kind.Zero name [] = number_text 0

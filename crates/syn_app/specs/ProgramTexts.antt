@@ -4,6 +4,7 @@ use Rattle.std.specs.Prelude.{◌≡◌, ◌≢◌, ℕ, ◌≤◌, List, [], �
 use Rattle.syn_term.specs.declared.sorts.Sort.TheVariants as sort
 use Rattle.syn_term.specs.Names.{IsName}
 use Rattle.syn_app.specs.declared.trees.Out.TheVariants as out
+use Rattle.syn_app.specs.Bounds.{most_body_levels}
 use Rattle.syn_app.specs.Trees.{ProgramTree}
 use Rattle.syn_app.specs.declared.flat.FlatTerm.{FlatTerm}
 use Rattle.syn_app.specs.SpecText.{nat_declared}
@@ -18,7 +19,7 @@ abbrev pub program_over : List ℕ → List ℕ → FlatTerm → ProgramTree
 program_over name input body = record { name = name; inputs = nat_declared input ∷ []; result = sort.Nat; body = out.Give (term_tree body) }
 
 -- the bytes are the text of a program, and it is this one: two distinct names, and a body without row variables that is
--- at most 1,264 deep
+-- at most `most_body_levels` deep
 pub record IsProgramText (bytes : List ℕ) (p : ProgramTree) : Type 0 where
   pub name : List ℕ
   pub input : List ℕ
@@ -29,5 +30,5 @@ pub record IsProgramText (bytes : List ℕ) (p : ProgramTree) : Type 0 where
   pub distinct : name ≢ input
   pub base : IsBase body.base
   pub closed : IsClosed body.base
-  pub fits : term_size body ≤ 1264
+  pub fits : term_size body ≤ most_body_levels
   pub stands : p ≡ program_over name input body

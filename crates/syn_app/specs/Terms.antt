@@ -4,6 +4,7 @@ use Rattle.std.specs.Prelude.{ℕ, zero, suc, ◌+◌, ◌<◌, ◌≤◌, ◌^�
 use Rattle.syn_term.specs.declared.sorts.Sort.TheVariants as sort
 use Rattle.syn_term.specs.declared.sorts.SymId.{SymId}
 use Rattle.syn_term.specs.Terms.{TermTree, application, variable_tree}
+use Rattle.syn_app.specs.Bounds.{largest_numeral}
 use Rattle.syn_app.specs.declared.flat.Base.{Base}
 use Rattle.syn_app.specs.declared.flat.Base.TheVariants as base
 use Rattle.syn_app.specs.declared.flat.FlatTerm.{FlatTerm}
@@ -47,10 +48,10 @@ base_tree (base.RowVariable n) = variable_tree (record { number = n; sort = sort
 abbrev pub term_tree : FlatTerm → TermTree
 term_tree r = successors_of r.successors (base_tree r.base)
 
--- a base that a text may have: numbers up to 1,000; row variables from 1, of at most seven digits
+-- a base that a text may have: numbers up to `largest_numeral`; row variables from 1, of at most seven digits
 abbrev pub IsBase : Base → Type 0
 IsBase base.Input = Unit {0}
-IsBase (base.Number n) = n ≤ 1000
+IsBase (base.Number n) = n ≤ largest_numeral
 IsBase (base.RowVariable n) = (0 < n) × (n < 10 ^ 7)
 
 -- a base that stands outside of rows too

@@ -139,7 +139,7 @@ first_bound q (b ∷ bs) x inside scope n some at =
 abbrev pub under : Quantifier → List ℕ → Var → QFormTree × ℕ → QFormTree × ℕ
 under q x v r = both (quantifier_tree q x v r.0) r.1
 
-bare_quantifier : (q : Quantifier) (x : List ℕ) (v : Var) (f : QFormTree) → bare_qform (quantifier_tree q x v f) ≡ quantifier_tree q x v (bare_qform f)
+pub bare_quantifier : (q : Quantifier) (x : List ℕ) (v : Var) (f : QFormTree) → bare_qform (quantifier_tree q x v f) ≡ quantifier_tree q x v (bare_qform f)
 bare_quantifier quantifier.All x v f = qfold-All bare_qform_step (record { var = v; name = x }) f
 bare_quantifier quantifier.Exists x v f = qfold-Exists bare_qform_step (record { var = v; name = x }) f
 
@@ -152,7 +152,8 @@ module _ (scope : TextScope) (q : Quantifier) (bs : List BinderSyntax) (x : Bind
       sym (first_bound q bs x inside scope n some at ∙ (bound_is q x rest scope n ∙ ap (option_and_then (λ v. mapped (quantifier_tree q x.name v) rest (with_name scope x.name v) (n + 1))) e))
 
   module _ (var : Var) (name : List ℕ) (place : TextScope) (after : ℕ) (o : Option (QFormTree × ℕ)) (is : v ≡ Some var) (named : name ≡ x.name) (inner : place ≡ with_name scope name var) (next : after ≡ n + 1) (read : option_map bare_reading o ≡ nested q (take (length bs - 1) (drop 1 bs)) inside place after) where
-    bound_whole : nested q bs inside scope n ≡ option_map (under q name var) (option_map bare_reading o)
+    -- what is read inside is put under the quantifier
+    pub bound_whole : nested q bs inside scope n ≡ option_map (under q name var) (option_map bare_reading o)
     bound_whole =
         let e : binder_var scope n x ≡ Some var = sym found ∙ is in
         let rest = nested q (take (length bs - 1) (drop 1 bs)) inside in
@@ -163,14 +164,3 @@ module _ (scope : TextScope) (q : Quantifier) (bs : List BinderSyntax) (x : Bind
         ∙ (ap (λ (z : TextScope). option_map (under q name var) (rest z (n + 1))) (sym inner)
         ∙ (ap (λ (z : ℕ). option_map (under q name var) (rest place z)) (sym next)
         ∙ ap (option_map (under q name var)) (sym read))))))
-
-    -- where there is none inside, there is none
-    pub none_inside : o ≡ None → None ≡ nested q bs inside scope n
-    none_inside none = sym (bound_whole ∙ ap (λ (z : Option (QFormTree × ℕ)). option_map (under q name var) (option_map bare_reading z)) none)
-
-    -- the formula inside is put under the quantifier
-    pub put_under : (f g : QFormTree) (last : ℕ) → o ≡ Some (both f last) → g ≡ quantifier_tree q name var f → Some (bare_reading (both g last)) ≡ nested q bs inside scope n
-    put_under f g last there made =
-        ap (λ (z : QFormTree). Some (both (bare_qform z) last)) made
-        ∙ (ap (λ (z : QFormTree). Some (both z last)) (bare_quantifier q name var f)
-        ∙ sym (bound_whole ∙ ap (λ (z : Option (QFormTree × ℕ)). option_map (under q name var) (option_map bare_reading z)) there))

@@ -1,5 +1,5 @@
 -- The depth that a syntax tree tells at a symbol with arguments and at a chain.
-use Rattle.std.proofs.Common.{◌≡◌, ◌+◌, ◌⊎◌, inl, inr, List, map, ◌∙◌, ap}
+use Rattle.std.proofs.Common.{◌≡◌, ℕ, ◌+◌, ◌⊎◌, inl, inr, List, map, min, sym, ◌∙◌, ap}
 use Rattle.syn_term.specs.Terms.{greatest}
 use Rattle.syn_form.specs.declared.syntax.HeadName.{HeadName}
 use Rattle.syn_form.specs.declared.syntax.TermSyntax.{TermSyntax}
@@ -16,3 +16,7 @@ applied_levels t h args is = ap term_levels is ∙ fold-Applied term_levels_step
 pub chain_levels : (f : FormSyntax) (all : List FormSyntax) → (f ≡ view.And all) ⊎ (f ≡ view.Or all) → form_levels f ≡ 1 + greatest (map form_levels all)
 chain_levels f all (inl e) = ap form_levels e ∙ fold-And form_levels_step all
 chain_levels f all (inr e) = ap form_levels e ∙ fold-Or form_levels_step all
+
+-- what is counted of the parts of a chain, up to a bound, is counted of the chain
+pub chain_capped : (f : FormSyntax) (all xs : List FormSyntax) (most r : ℕ) → (f ≡ view.And all) ⊎ (f ≡ view.Or all) → xs ≡ all → r ≡ min (1 + greatest (map form_levels xs)) most → r ≡ min (form_levels f) most
+chain_capped f all xs most r is same e = e ∙ ap (λ n. min n most) (ap (λ (z : List FormSyntax). 1 + greatest (map form_levels z)) same ∙ sym (chain_levels f all is))

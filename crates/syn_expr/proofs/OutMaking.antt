@@ -4,8 +4,10 @@ use Rattle.std.specs.Option.{option_and_then, option_map}
 use Rattle.syn_term.specs.declared.sorts.Sort.{Sort}
 use Rattle.syn_term.specs.Symbols.{SymbolTable}
 use Rattle.syn_form.specs.declared.syntax.FormSyntax.{FormSyntax}
+use Rattle.syn_form.specs.declared.syntax.OutSyntax.{OutSyntax}
+use Rattle.syn_form.specs.declared.syntax.OutSyntax.TheViews as syntax_view
 use Rattle.syn_form.specs.declared.trees.Out.TheViews as view
-use Rattle.syn_form.specs.Elaboration.{elaborate_form, elaborate_plain, sorted_choice}
+use Rattle.syn_form.specs.Elaboration.{choice_tree, elaborate_form, elaborate_out, elaborate_out_step, elaborate_plain, sorted_choice}
 use Rattle.syn_form.specs.Plain.{given_sort}
 use Rattle.syn_form.specs.Quantified.{unquantified}
 use Rattle.syn_form.specs.Scopes.{TextScope}
@@ -14,6 +16,7 @@ use Rattle.syn_form.specs.Trees.{FormTree, OutTree, QFormTree, bare_form, bare_o
 use Rattle.syn_form.proofs.Equations.{bare_out-If}
 use Rattle.syn_expr.specs.inner.Elaborating.{bare_reading}
 use Rattle.syn_expr.proofs.FormMaking.{both}
+use Rattle.syn_expr.proofs.FormSyntaxes.{fold-If}
 use Rattle.syn_form.proofs.BareVars.{given_bare}
 use Rattle.syn_expr.proofs.Unquantifying.{unquantified_bare}
 
@@ -36,3 +39,9 @@ module _ (table : SymbolTable) (f : FormTree) (u v : OutTree) (a b : Option Sort
 
   pub no_choice : test ≡ false → None ≡ sorted_choice table (bare_form f) (bare_out u) (bare_out v)
   no_choice t = sym (choice_is false t)
+
+-- what is made of the parts of a choice is made of the whole
+pub choice_read : (scope : TextScope) (o : OutSyntax) (f : FormSyntax) (u v x y : OutSyntax) (r : Option OutTree) → o ≡ syntax_view.If f u v → x ≡ u → y ≡ v → r ≡ choice_tree scope.table (elaborate_plain scope f) (elaborate_out scope x) (elaborate_out scope y) → r ≡ elaborate_out scope o
+choice_read scope o f u v x y r is is_x is_y e =
+    e ∙ (ap (λ (z : OutSyntax). choice_tree scope.table (elaborate_plain scope f) (elaborate_out scope z) (elaborate_out scope y)) is_x
+    ∙ (ap (λ (z : OutSyntax). choice_tree scope.table (elaborate_plain scope f) (elaborate_out scope u) (elaborate_out scope z)) is_y ∙ sym (ap (elaborate_out scope) is ∙ fold-If (elaborate_out_step scope) f u v)))

@@ -16,6 +16,10 @@ pub three_put : (a b c whole old first second new : List ℕ) → whole ≡ a ++
 three_put a b c whole old first second new is put_a put_b put_c =
     two_put (a ++ b) c whole old second new is (two_put a b (a ++ b) old first second refl put_a put_b) put_c
 
+-- the first of three pieces was put, and then the other two as one
+pub rest_put : (a b c whole old mid new : List ℕ) → whole ≡ a ++ b ++ c → mid ≡ old ++ a → new ≡ mid ++ (b ++ c) → new ≡ old ++ whole
+rest_put a b c whole old mid new is put_a put_rest = two_put a (b ++ c) whole old mid new (is ∙ append_assoc a b c) put_a put_rest
+
 -- what stands between some texts and the next
 gap : List ℕ → List (List ℕ) → List ℕ
 gap between [] = []

@@ -37,11 +37,8 @@ module _ (a b : Kept) where
   applied_cost s h args xs is same = ap term_cost is ∙ (fold-Applied term_cost_step h args ∙ ap (λ (z : List TermSyntax). 1 + sum (map term_cost z)) (sym same))
 
   -- the arguments, and the symbol over them
-  pub args_spent : (s : TermSyntax) (h : HeadName) (args xs : List TermSyntax) → s ≡ term_view.Applied h args → xs ≡ args → Spends a b (sum (map term_cost xs)) → Spends a b (term_cost s)
-  args_spent s h args xs is same k = let e = applied_cost s h args xs is same in spends_less a b (sum (map term_cost xs)) (term_cost s) (omega (arith, e)) k
-
-  pub applied_spent : (s : TermSyntax) (h : HeadName) (args xs : List TermSyntax) (c : Kept) → s ≡ term_view.Applied h args → xs ≡ args → Spends a b (sum (map term_cost xs)) → Spends b c 1 → Spends a c (term_cost s)
-  applied_spent s h args xs c is same k l = let e = applied_cost s h args xs is same in spends_less a c (sum (map term_cost xs) + 1) (term_cost s) (omega (arith, e)) (spends_both a b c (sum (map term_cost xs)) 1 k l)
+  pub applied_spent : (s : TermSyntax) (h : HeadName) (args xs : List TermSyntax) → s ≡ term_view.Applied h args → xs ≡ args → Spends a b (sum (map term_cost xs) + 1) → Spends a b (term_cost s)
+  applied_spent s h args xs is same k = let e = applied_cost s h args xs is same in spends_less a b (sum (map term_cost xs) + 1) (term_cost s) (omega (arith, e)) k
 
   pub atom_spent : (f : FormSyntax) (r : List ℕ) (args xs : List TermSyntax) → f ≡ form.Atom r args → xs ≡ args → Spends a b (sum (map term_cost xs)) → Spends a b (form_cost f)
   atom_spent f r args xs is same k =
@@ -86,24 +83,21 @@ module _ (a b : Kept) where
   pub give_spent : (o : OutSyntax) (t : TermSyntax) → o ≡ out.Give t → Spends a b (term_cost t) → Spends a b (out_cost o)
   give_spent o t is = spends_as (term_cost t) (out_cost o) (ap out_cost is ∙ fold-Give out_cost_step t)
 
--- a choice, as far as it was read
-module _ (o : OutSyntax) (f : FormSyntax) (u v : OutSyntax) (is : o ≡ out_view.If f u v) (a b : Kept) (test : Spends a b (form_cost f)) where
-  choice_cost : out_cost o ≡ 1 + (form_cost f + (out_cost u + out_cost v))
-  choice_cost = ap out_cost is ∙ fold-If out_cost_step f u v
+-- the arms of a choice cost less than the choice
+pub lighter_arms : (o : OutSyntax) (f : FormSyntax) (u v x y : OutSyntax) → o ≡ out_view.If f u v → x ≡ u → y ≡ v → out_cost x + out_cost y < out_cost o
+lighter_arms o f u v x y is is_x is_y =
+    let e : out_cost o ≡ 1 + (form_cost f + (out_cost u + out_cost v)) = ap out_cost is ∙ fold-If out_cost_step f u v in
+    let m : out_cost x ≡ out_cost u = ap out_cost is_x in
+    let n : out_cost y ≡ out_cost v = ap out_cost is_y in omega (arith, e)
 
-  pub test_spent : Spends a b (out_cost o)
-  test_spent = spends_less a b (form_cost f) (out_cost o) (omega (arith, choice_cost)) test
-
-  module _ (c : Kept) (first : Spends b c (out_cost u)) where
-    two : Spends a c (form_cost f + out_cost u)
-    two = spends_both a b c (form_cost f) (out_cost u) test first
-
-    pub arm_spent : Spends a c (out_cost o)
-    arm_spent = spends_less a c (form_cost f + out_cost u) (out_cost o) (omega (arith, choice_cost)) two
-
-    pub choice_spent : (d : Kept) → Spends c d (out_cost v) → Spends a d (out_cost o)
-    choice_spent d second =
-        spends_less a d ((form_cost f + out_cost u) + out_cost v) (out_cost o) (omega (arith, choice_cost)) (spends_both a c d (form_cost f + out_cost u) (out_cost v) two second)
+-- a choice: its test and its arms
+pub choice_spent : (a b : Kept) (o : OutSyntax) (f g : FormSyntax) (u v x y : OutSyntax) → o ≡ out_view.If f u v → g ≡ f → x ≡ u → y ≡ v → Spends a b (form_cost g + (out_cost x + out_cost y)) → Spends a b (out_cost o)
+choice_spent a b o f g u v x y is is_g is_x is_y k =
+    let e : out_cost o ≡ 1 + (form_cost f + (out_cost u + out_cost v)) = ap out_cost is ∙ fold-If out_cost_step f u v in
+    let l : form_cost g ≡ form_cost f = ap form_cost is_g in
+    let m : out_cost x ≡ out_cost u = ap out_cost is_x in
+    let n : out_cost y ≡ out_cost v = ap out_cost is_y in
+    spends_less a b (form_cost g + (out_cost x + out_cost y)) (out_cost o) (omega (arith, e)) k
 
 -- two parts, as far as they were read
 module _ (a b : Kept) (m n : ℕ) (first : Spends a b m) where
@@ -143,4 +137,4 @@ part_spent cost xs i a b h = spends_less a b (sum (map cost (take i xs))) (sum (
 pub items_spent : {X : Type 0} (cost : X → ℕ) (xs : List X) (i : ℕ) (x : X) → i < length xs → x ≡ get_or xs i x → (a b c : Kept) → Spends a b (sum (map cost (take i xs))) → Spends b c (cost x) → Spends a c (sum (map cost xs))
 items_spent cost xs i x lt at a b c before here = part_spent cost xs (i + 1) a c (item_spent cost xs i x lt at a b c before here)
 
-pub ruleset spending = (spends, spends_none, spends_both, number_spent, row_spent, alone_spent, args_spent, atom_spent, equal_spent, not_spent, and_spent, or_spent, implies_spent, both_ways_spent, quantified_spent, give_spent, test_spent, arm_spent, first_spent, there_spent)
+pub ruleset spending = (spends, spends_none, spends_both, number_spent, row_spent, alone_spent, applied_spent, atom_spent, equal_spent, not_spent, and_spent, or_spent, implies_spent, both_ways_spent, quantified_spent, give_spent, first_spent, there_spent)

@@ -1,9 +1,9 @@
 -- What a bank makes of terms that stand for syntax trees.
-use Rattle.std.proofs.Common.{◌≡◌, ℕ, ◌+◌, ◌<◌, ◌≤◌, true, false, List, [], ◌∷◌, ◌++◌, Option, None, Some, All, map, length, take, get_or, refl, sym, ◌∙◌, ap, subst}
+use Rattle.std.proofs.Common.{◌≡◌, ℕ, ◌+◌, ◌<◌, true, false, List, [], ◌∷◌, ◌++◌, Option, None, Some, All, map, length, take, get_or, refl, sym, ◌∙◌, ap, subst}
 use Rattle.std.specs.Prelude.{MatchOption}
 use Rattle.std.specs.Option.{option_and_then, option_map}
 use Rattle.std.proofs.lemmas.Bool.{false_from_ne_true}
-use Rattle.std.proofs.lemmas.List.{take_all, map-append}
+use Rattle.std.proofs.lemmas.List.{map-append}
 use Rattle.std.proofs.lemmas.List.Elements.{All-append, All-cons, All-nil, All-weaker}
 use Rattle.syn_term.specs.declared.sorts.SymId.{SymId}
 use Rattle.syn_term.specs.Bank.{Kept, Belongs, Extends, Belongs-extends}
@@ -11,13 +11,11 @@ use Rattle.syn_term.specs.Symbols.{SymbolTable}
 use Rattle.syn_term.specs.Terms.{TermTree, IsApplication, application, bare}
 use Rattle.syn_form.specs.declared.syntax.HeadName.{HeadName}
 use Rattle.syn_form.specs.declared.syntax.TermSyntax.{TermSyntax}
-use Rattle.syn_form.specs.declared.syntax.TermSyntax.TheViews as view
-use Rattle.syn_form.specs.Elaboration.{sorted_application, applied_tree, head_symbol, elaborate_term, elaborate_term_step}
+use Rattle.syn_form.specs.Elaboration.{sorted_application, applied_tree, head_symbol, elaborate_term}
 use Rattle.syn_form.specs.Lists.{all_there}
 use Rattle.syn_form.specs.Scopes.{TextScope}
 use Rattle.syn_form.specs.Sorts.{makes_term}
-use Rattle.syn_expr.proofs.Options.{all_more, one_missing}
-use Rattle.syn_expr.proofs.TermSyntaxes.{fold-Applied}
+use Rattle.syn_expr.proofs.Options.{all_more}
 use Rattle.syn_form.proofs.Sorting.{application_decided, makes_bare}
 
 module _ (table : SymbolTable) (f : SymId) (args : List TermTree) where
@@ -36,17 +34,6 @@ module _ (scope : TextScope) where
   abbrev made_terms : List TermSyntax → Option (List TermTree)
   made_terms xs = all_there (map (elaborate_term scope) xs)
 
-  none_applied : (h : HeadName) (os : List (Option TermTree)) → all_there os ≡ None → applied_tree scope h os ≡ None
-  none_applied h [] e = refl
-  none_applied h (o ∷ os) e = ap (option_and_then (λ args. option_and_then (sorted_application scope.table args) (head_symbol scope h))) e
-
-  -- where one argument stands for no term, the whole stands for none
-  pub argument_missing : (s : TermSyntax) (h : HeadName) (args xs : List TermSyntax) (i : ℕ) (x : TermSyntax) (o : Option TermTree) → s ≡ view.Applied h args → xs ≡ args → i < length xs → x ≡ get_or xs i x → option_map bare o ≡ elaborate_term scope x → o ≡ None → None ≡ elaborate_term scope s
-  argument_missing s h args xs i x o is same lt at made none =
-      let miss : elaborate_term scope (get_or xs i x) ≡ None = ap (elaborate_term scope) (sym at) ∙ (sym made ∙ ap (option_map bare) none) in
-      let all : made_terms args ≡ None = ap made_terms (sym same) ∙ one_missing (elaborate_term scope) xs i x lt miss in
-      sym (ap (elaborate_term scope) is ∙ (fold-Applied (elaborate_term_step scope) h args ∙ none_applied h (map (elaborate_term scope) args) all))
-
   -- one argument more is made
   pub argument_made : (xs : List TermSyntax) (i : ℕ) (x : TermSyntax) (done new : List TermTree) (t : TermTree) (o : Option TermTree) → i < length xs → x ≡ get_or xs i x → made_terms (take i xs) ≡ Some (map bare done) → option_map bare o ≡ elaborate_term scope x → o ≡ Some t → new ≡ done ++ t ∷ [] → made_terms (take (i + 1) xs) ≡ Some (map bare new)
   argument_made xs i x done new t o lt at so_far made some pushed =
@@ -60,10 +47,10 @@ module _ (scope : TextScope) where
   applied_some h (x ∷ xs) ts some e = applied_all h x xs ts e
 
   -- where all arguments are made, the symbol is applied to them
-  pub applied_made : (s : TermSyntax) (h : HeadName) (args xs : List TermSyntax) (i : ℕ) (parts whole : List TermTree) (symbol : Option SymId) (o : Option TermTree) → s ≡ view.Applied h args → xs ≡ args → (args ≡ [] → ⊥) → length xs ≤ i → made_terms (take i xs) ≡ Some (map bare parts) → whole ≡ parts → symbol ≡ head_symbol scope h → o ≡ option_and_then (sorted_application scope.table (map bare whole)) symbol → o ≡ elaborate_term scope s
-  applied_made s h args xs i parts whole symbol o is same some end made all found e =
-      let terms : made_terms args ≡ Some (map bare whole) = ap made_terms (sym same ∙ sym (take_all i xs end)) ∙ (made ∙ ap (λ (z : List TermTree). Some (map bare z)) (sym all)) in
-      e ∙ (ap (option_and_then (sorted_application scope.table (map bare whole))) found ∙ sym (ap (elaborate_term scope) is ∙ (fold-Applied (elaborate_term_step scope) h args ∙ applied_some h args (map bare whole) some terms)))
+  pub applied_made : (h : HeadName) (xs : List TermSyntax) (parts whole : List TermTree) (all : Option (List TermTree)) (symbol : Option SymId) (o : Option TermTree) → (xs ≡ [] → ⊥) → option_map (map bare) all ≡ made_terms xs → all ≡ Some parts → whole ≡ parts → symbol ≡ head_symbol scope h → o ≡ option_and_then (sorted_application scope.table (map bare whole)) symbol → o ≡ applied_tree scope h (map (elaborate_term scope) xs)
+  applied_made h xs parts whole all symbol o some made there same found e =
+      let terms : made_terms xs ≡ Some (map bare whole) = sym made ∙ (ap (option_map (map bare)) there ∙ ap (λ (z : List TermTree). Some (map bare z)) (sym same)) in
+      e ∙ (ap (option_and_then (sorted_application scope.table (map bare whole))) found ∙ sym (applied_some h xs (map bare whole) some terms))
 
 -- what belonged to a bank belongs to it still, with one term more
 pub all_belong : (a b : Kept) (done new : List TermTree) (t : TermTree) → Extends a b → All (Belongs a) done → Belongs b t → new ≡ done ++ t ∷ [] → All (Belongs b) new

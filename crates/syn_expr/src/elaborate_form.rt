@@ -4,7 +4,7 @@ ghost use Rattle.std.specs.Prelude.{◌≡◌, ◌+◌, ◌*◌, All, map, sum, 
 ghost use Rattle.std.specs.Option.{option_map};
 ghost use Rattle.syn_term.specs.Bank.{Extends};
 ghost use Rattle.syn_form.specs.Elaboration as elaboration;
-ghost use Rattle.syn_form.specs.Elaboration.{and_then, in_turn, nested, two_ways};
+ghost use Rattle.syn_form.specs.Elaboration.{and_then, in_turn, mapped, nested, two_ways};
 ghost use Rattle.syn_form.specs.declared.trees.QForm.TheViews as view;
 ghost use Rattle.syn_expr.specs.Belonging.{QFormBelongs};
 ghost use Rattle.syn_expr.specs.inner.Elaborating.{bare_reading, bare_readings};
@@ -13,7 +13,7 @@ ghost use Rattle.syn_expr.specs.inner.Places.{spoken_at};
 ghost use Rattle.syn_expr.specs.inner.Spending.{Spends};
 
 use crate::form_parts::{
-    both, conjunction, disjunction, elaborate_atom, elaborate_equality, negated, quantify, steady,
+    both, bound, conjunction, disjunction, negated, steady_atom, steady_equality,
 };
 use crate::lookups::binder_var;
 use crate::names::{Inside, within};
@@ -43,32 +43,13 @@ pub(crate) fn elaborate_form(
     match syntax {
         FormSyntax::True => Ok(Some((QForm::True, next))),
         FormSyntax::False => Ok(Some((QForm::False, next))),
-        FormSyntax::Atom(name, args) => match elaborate_atom(
-            alloc,
-            bank,
-            place,
-            name,
-            args.as_slice(),
-        ) {
-            Ok(read) => Ok(steady(read, next)),
-            Err(error) => Err(error),
-        },
-        FormSyntax::Equal(s, t) => match elaborate_equality(alloc, bank, place, s.get(), t.get()) {
-            Ok(read) => Ok(steady(read, next)),
-            Err(error) => Err(error),
-        },
-        FormSyntax::Not(a) => match elaborate_form(alloc, bank, place, next, a.get()) {
-            Ok(read) => negated(alloc, read),
-            Err(error) => Err(error),
-        },
-        FormSyntax::And(all) => match elaborate_forms(alloc, bank, place, next, all.as_slice()) {
-            Ok(read) => conjunction(alloc, read),
-            Err(error) => Err(error),
-        },
-        FormSyntax::Or(all) => match elaborate_forms(alloc, bank, place, next, all.as_slice()) {
-            Ok(read) => disjunction(alloc, read),
-            Err(error) => Err(error),
-        },
+        FormSyntax::Atom(name, args) => {
+            steady_atom(alloc, bank, place, next, name, args.as_slice())
+        }
+        FormSyntax::Equal(s, t) => steady_equality(alloc, bank, place, next, s.get(), t.get()),
+        FormSyntax::Not(a) => negation(alloc, bank, place, next, a.get()),
+        FormSyntax::And(all) => members_and(alloc, bank, place, next, all.as_slice()),
+        FormSyntax::Or(all) => members_or(alloc, bank, place, next, all.as_slice()),
         FormSyntax::Implies(a, b) => implication(alloc, bank, place, next, a.get(), b.get()),
         FormSyntax::BothWays(a, b) => both_ways(alloc, bank, place, next, a.get(), b.get()),
         FormSyntax::Quantified(quantifier, binders, a) => {
@@ -85,6 +66,69 @@ pub(crate) fn elaborate_form(
                 a.get(),
             )
         }
+    }
+}
+
+/// The negation of the formula.
+#[cycle(forms)]
+#[tactic(auto, using(crate::proofs::Owning::owning, crate::proofs::Spending::spending))]
+fn negation(
+    alloc: Global,
+    bank: &mut Bank,
+    place: &Inside,
+    next: u32,
+    a: &FormSyntax,
+) -> Result<Option<(QForm, u32)>, NoMemory>
+    ensures tree { IfOk result (λ o. option_map bare_reading o ≡ mapped view.Not (elaboration.elaborate_form a.now) (spoken_at place.now) next) }
+    ensures made { Spends bank.old bank.new (limits.form_cost a.now) }
+    ensures extends { Extends bank.old bank.new }
+    ensures belongs { IfOk result (λ o. IfSome o (λ r. QFormBelongs bank.new r.0)) }
+{
+    match elaborate_form(alloc, bank, place, next, a) {
+        Ok(read) => negated(alloc, read),
+        Err(error) => Err(error),
+    }
+}
+
+/// The `and` of the formulas.
+#[cycle(forms)]
+#[tactic(auto, using(crate::proofs::Owning::owning, crate::proofs::Spending::spending))]
+fn members_and(
+    alloc: Global,
+    bank: &mut Bank,
+    place: &Inside,
+    next: u32,
+    all: &[FormSyntax],
+) -> Result<Option<(QForm, u32)>, NoMemory>
+    ensures tree { IfOk result (λ o. option_map bare_reading o ≡ mapped view.And (in_turn (map elaboration.elaborate_form all.now)) (spoken_at place.now) next) }
+    ensures made { Spends bank.old bank.new (sum (map limits.form_cost all.now)) }
+    ensures extends { Extends bank.old bank.new }
+    ensures belongs { IfOk result (λ o. IfSome o (λ r. QFormBelongs bank.new r.0)) }
+{
+    match elaborate_forms(alloc, bank, place, next, all) {
+        Ok(read) => conjunction(alloc, read),
+        Err(error) => Err(error),
+    }
+}
+
+/// The `or` of the formulas.
+#[cycle(forms)]
+#[tactic(auto, using(crate::proofs::Owning::owning, crate::proofs::Spending::spending))]
+fn members_or(
+    alloc: Global,
+    bank: &mut Bank,
+    place: &Inside,
+    next: u32,
+    all: &[FormSyntax],
+) -> Result<Option<(QForm, u32)>, NoMemory>
+    ensures tree { IfOk result (λ o. option_map bare_reading o ≡ mapped view.Or (in_turn (map elaboration.elaborate_form all.now)) (spoken_at place.now) next) }
+    ensures made { Spends bank.old bank.new (sum (map limits.form_cost all.now)) }
+    ensures extends { Extends bank.old bank.new }
+    ensures belongs { IfOk result (λ o. IfSome o (λ r. QFormBelongs bank.new r.0)) }
+{
+    match elaborate_forms(alloc, bank, place, next, all) {
+        Ok(read) => disjunction(alloc, read),
+        Err(error) => Err(error),
     }
 }
 
@@ -217,14 +261,7 @@ fn quantified(
             let binder = Binder { var, name };
             let place = within(&*place, &binder);
             match quantified(alloc, bank, &place, after, quantifier, rest, a) {
-                Ok(Some((f, last))) => match quantify(alloc, quantifier, binder, f) {
-                    Ok(f) => Ok(Some((f, last))),
-                    Err(error) => Err(error),
-                },
-                Ok(None) => {
-                    drop(binder);
-                    Ok(None)
-                }
+                Ok(read) => bound(alloc, quantifier, binder, read),
                 Err(error) => {
                     drop(binder);
                     Err(error)

@@ -1,5 +1,5 @@
 // The formula without quantifiers, and the output, that a syntax tree stands for, made by a bank.
-ghost use Rattle.std.specs.Prelude.{◌≡◌, IfOk, IfSome};
+ghost use Rattle.std.specs.Prelude.{◌≡◌, ◌+◌, IfOk, IfSome};
 ghost use Rattle.std.specs.Option.{option_map};
 ghost use Rattle.syn_term.specs.Bank.{Extends, Kept};
 ghost use Rattle.syn_form.specs.Elaboration as elaboration;
@@ -7,6 +7,7 @@ ghost use Rattle.syn_form.specs.Plain as plain;
 ghost use Rattle.syn_form.specs.Trees.{bare_form, bare_out};
 ghost use Rattle.syn_expr.specs.Belonging.{FormBelongs, OutBelongs};
 ghost use Rattle.syn_expr.specs.Limits as limits;
+ghost use Rattle.syn_expr.specs.inner.Elaborating.{bare_arms, both_there};
 ghost use Rattle.syn_expr.specs.inner.Places.{spoken_at};
 ghost use Rattle.syn_expr.specs.inner.Spending.{Spends};
 
@@ -74,6 +75,7 @@ fn choice(alloc: Global, syms: &Symbols, f: Form, u: Out, v: Out) -> Result<Opti
 
 /// The output that the syntax tree stands for; None where a name isn't there, sorts don't fit or a
 /// test has a quantifier. The one error is want of memory, or of numbers for binders.
+#[cycle(outs)]
 #[tactic(auto, using(crate::proofs::Owning::owning_outs, crate::proofs::Spending::spending))]
 pub(crate) fn elaborate_out(
     alloc: Global,
@@ -91,33 +93,69 @@ pub(crate) fn elaborate_out(
             None => Ok(None),
             Some(t) => Ok(Some(Out::Give(t))),
         },
-        OutSyntax::If(f, u, v) => {
-            let Some(f) = elaborate_plain(alloc, bank, place, f)? else {
-                return Ok(None);
-            };
-            match elaborate_out(alloc, bank, place, u.get()) {
-                Ok(Some(u)) => match elaborate_out(alloc, bank, place, v.get()) {
-                    Ok(Some(v)) => choice(alloc, place.syms, f, u, v),
-                    Ok(None) => {
-                        drop(f);
-                        drop(u);
-                        Ok(None)
-                    }
-                    Err(error) => {
-                        drop(f);
-                        drop(u);
-                        Err(error)
-                    }
-                },
-                Ok(None) => {
-                    drop(f);
-                    Ok(None)
-                }
-                Err(error) => {
-                    drop(f);
-                    Err(error)
-                }
-            }
+        OutSyntax::If(f, u, v) => elaborate_choice(alloc, bank, place, f, u.get(), v.get()),
+    }
+}
+
+/// The choice that a test and two arms stand for.
+#[cycle(outs)]
+#[tactic(auto, using(crate::proofs::Owning::owning_outs, crate::proofs::Spending::spending))]
+fn elaborate_choice(
+    alloc: Global,
+    bank: &mut Bank,
+    place: &Inside,
+    f: &FormSyntax,
+    u: &OutSyntax,
+    v: &OutSyntax,
+) -> Result<Option<Out>, NoMemory>
+    ensures tree { IfOk result (λ o. option_map bare_out o ≡ elaboration.choice_tree (spoken_at place.now).table (elaboration.elaborate_plain (spoken_at place.now) f.now) (elaboration.elaborate_out (spoken_at place.now) u.now) (elaboration.elaborate_out (spoken_at place.now) v.now)) }
+    ensures made { Spends bank.old bank.new (limits.form_cost f.now + (limits.out_cost u.now + limits.out_cost v.now)) }
+    ensures extends { Extends bank.old bank.new }
+    ensures belongs { IfOk result (λ o. IfSome o (OutBelongs bank.new)) }
+{
+    let Some(f) = elaborate_plain(alloc, bank, place, f)? else {
+        return Ok(None);
+    };
+    match elaborate_arms(alloc, bank, place, u, v) {
+        Ok(Some((u, v))) => choice(alloc, place.syms, f, u, v),
+        Ok(None) => {
+            drop(f);
+            Ok(None)
+        }
+        Err(error) => {
+            drop(f);
+            Err(error)
+        }
+    }
+}
+
+/// The arms of a choice; None where one of them stands for no output.
+#[cycle(outs)]
+#[tactic(auto, using(crate::proofs::Owning::owning_outs, crate::proofs::Spending::spending))]
+fn elaborate_arms(
+    alloc: Global,
+    bank: &mut Bank,
+    place: &Inside,
+    u: &OutSyntax,
+    v: &OutSyntax,
+) -> Result<Option<(Out, Out)>, NoMemory>
+    ensures tree { IfOk result (λ o. option_map bare_arms o ≡ both_there (elaboration.elaborate_out (spoken_at place.now) u.now) (elaboration.elaborate_out (spoken_at place.now) v.now)) }
+    ensures made { Spends bank.old bank.new (limits.out_cost u.now + limits.out_cost v.now) }
+    ensures extends { Extends bank.old bank.new }
+    ensures belongs { IfOk result (λ o. IfSome o (λ both. OutBelongs bank.new both.0 × OutBelongs bank.new both.1)) }
+{
+    let Some(u) = elaborate_out(alloc, bank, place, u)? else {
+        return Ok(None);
+    };
+    match elaborate_out(alloc, bank, place, v) {
+        Ok(Some(v)) => Ok(Some((u, v))),
+        Ok(None) => {
+            drop(u);
+            Ok(None)
+        }
+        Err(error) => {
+            drop(u);
+            Err(error)
         }
     }
 }

@@ -1,10 +1,11 @@
 // The term that a syntax tree stands for, made by a bank.
-ghost use Rattle.std.specs.Prelude.{◌≡◌, ◌+◌, All, map, IfOk, IfSome};
+ghost use Rattle.std.specs.Prelude.{◌≡◌, ◌+◌, All, map, sum, IfOk, IfSome};
 ghost use Rattle.std.specs.Option.{option_and_then, option_map};
 ghost use Rattle.syn_term.specs.Bank.{Belongs, Extends};
 ghost use Rattle.syn_term.specs.Terms.{bare};
 ghost use Rattle.syn_form.specs.Elaboration as elaboration;
 ghost use Rattle.syn_form.specs.Elaboration.{sorted_application};
+ghost use Rattle.syn_form.specs.Lists.{all_there};
 ghost use Rattle.syn_expr.specs.inner.Elaborating.{next_tree};
 ghost use Rattle.syn_expr.specs.Limits as limits;
 ghost use Rattle.syn_expr.specs.inner.Places.{spoken_at};
@@ -144,6 +145,7 @@ fn head_term(
 
 /// The term that the syntax tree stands for, None where a name isn't there or a symbol doesn't take
 /// its arguments. The one error is want of memory.
+#[cycle(terms)]
 #[tactic(auto, using(crate::proofs::Growth::growth, crate::proofs::Spending::spending))]
 pub(crate) fn elaborate_term(
     alloc: Global,
@@ -161,23 +163,62 @@ pub(crate) fn elaborate_term(
         TermSyntax::RowVar(number, sort) => row_term(alloc, bank, place, *number, sort),
         TermSyntax::Alone(head) => head_term(alloc, bank, place, head),
         TermSyntax::Applied(head, args) => {
-            if args.is_empty() {
-                return Ok(None);
-            }
-            let mut parts = Items::new(alloc);
-            for arg in args.as_slice() {
-                match elaborate_term(alloc, bank, place, arg)? {
-                    None => return Ok(None),
-                    Some(part) => parts.push(part)?,
-                }
-            }
-            applied(
-                alloc,
-                bank,
-                place.syms,
-                head_symbol(place, head),
-                parts.as_slice(),
-            )
+            elaborate_applied(alloc, bank, place, head, args.as_slice())
         }
     }
+}
+
+/// The symbol of the head with the arguments that the syntax trees stand for; None where there are
+/// none of these.
+#[cycle(terms)]
+#[tactic(auto, using(crate::proofs::Growth::growth, crate::proofs::Spending::spending))]
+fn elaborate_applied(
+    alloc: Global,
+    bank: &mut Bank,
+    place: &Inside,
+    head: &HeadName,
+    args: &[TermSyntax],
+) -> Result<Option<Term>, NoMemory>
+    ensures tree { IfOk result (λ o. option_map bare o ≡ elaboration.applied_tree (spoken_at place.now) head.now (map (elaboration.elaborate_term (spoken_at place.now)) args.now)) }
+    ensures made { Spends bank.old bank.new (sum (map limits.term_cost args.now) + 1) }
+    ensures extends { Extends bank.old bank.new }
+    ensures belongs { IfOk result (λ o. IfSome o (Belongs bank.new)) }
+{
+    if args.is_empty() {
+        return Ok(None);
+    }
+    match elaborate_terms(alloc, bank, place, args)? {
+        None => Ok(None),
+        Some(terms) => applied(
+            alloc,
+            bank,
+            place.syms,
+            head_symbol(place, head),
+            terms.as_slice(),
+        ),
+    }
+}
+
+/// The terms that the syntax trees stand for; None where one stands for none.
+#[cycle(terms)]
+#[tactic(auto, using(crate::proofs::Growth::growth, crate::proofs::Spending::spending))]
+pub(crate) fn elaborate_terms(
+    alloc: Global,
+    bank: &mut Bank,
+    place: &Inside,
+    all: &[TermSyntax],
+) -> Result<Option<Items<Term>>, NoMemory>
+    ensures tree { IfOk result (λ o. option_map (map bare) o ≡ all_there (map (elaboration.elaborate_term (spoken_at place.now)) all.now)) }
+    ensures made { Spends bank.old bank.new (sum (map limits.term_cost all.now)) }
+    ensures extends { Extends bank.old bank.new }
+    ensures belongs { IfOk result (λ o. IfSome o (All (Belongs bank.new))) }
+{
+    let mut terms = Items::new(alloc);
+    for syntax in all {
+        match elaborate_term(alloc, bank, place, syntax)? {
+            None => return Ok(None),
+            Some(term) => terms.push(term)?,
+        }
+    }
+    Ok(Some(terms))
 }

@@ -5,7 +5,6 @@ ghost use Rattle.syn_term.specs.Bank.{Belongs, Extends, Kept};
 ghost use Rattle.syn_term.specs.Terms.{bare};
 ghost use Rattle.syn_form.specs.Elaboration as elaboration;
 ghost use Rattle.syn_form.specs.Elaboration.{quantifier_tree, sorted_atom};
-ghost use Rattle.syn_form.specs.Lists.{all_there};
 ghost use Rattle.syn_form.specs.Quantified.{bare_qform};
 ghost use Rattle.syn_form.specs.declared.trees.QForm.TheViews as view;
 ghost use Rattle.syn_expr.specs.Belonging.{QFormBelongs};
@@ -14,36 +13,13 @@ ghost use Rattle.syn_expr.specs.Limits as limits;
 ghost use Rattle.syn_expr.specs.inner.Places.{spoken_at};
 ghost use Rattle.syn_expr.specs.inner.Spending.{Spends};
 
-use crate::elaborate_term::elaborate_term;
+use crate::elaborate_term::{elaborate_term, elaborate_terms};
 use crate::lookups::symbol_named;
 use crate::names::Inside;
 use sqlite_items::Items;
 use std::alloc::Global;
 use syn_form::{Binder, NameText, QForm, Quantifier, TermSyntax, are_of_one_sort, is_atom};
 use syn_term::{Bank, NoMemory, Shared, SymId, Symbols, Term};
-
-/// The terms that the syntax trees stand for; None where one stands for none.
-#[tactic(auto, using(crate::proofs::Growth::growth, crate::proofs::Spending::spending))]
-fn elaborate_terms(
-    alloc: Global,
-    bank: &mut Bank,
-    place: &Inside,
-    all: &[TermSyntax],
-) -> Result<Option<Items<Term>>, NoMemory>
-    ensures tree { IfOk result (λ o. option_map (map bare) o ≡ all_there (map (elaboration.elaborate_term (spoken_at place.now)) all.now)) }
-    ensures made { Spends bank.old bank.new (sum (map limits.term_cost all.now)) }
-    ensures extends { Extends bank.old bank.new }
-    ensures belongs { IfOk result (λ o. IfSome o (All (Belongs bank.new))) }
-{
-    let mut terms = Items::new(alloc);
-    for syntax in all {
-        match elaborate_term(alloc, bank, place, syntax)? {
-            None => return Ok(None),
-            Some(term) => terms.push(term)?,
-        }
-    }
-    Ok(Some(terms))
-}
 
 /// The symbol before the terms; None where there is no symbol, or it makes no atom of them.
 #[tactic(auto, using(crate::proofs::Owning::owning))]
@@ -67,7 +43,7 @@ fn atom(
 
 /// The atom that a name with arguments stands for.
 #[tactic(auto, using(crate::proofs::Owning::owning, crate::proofs::Spending::spending))]
-pub(crate) fn elaborate_atom(
+fn elaborate_atom(
     alloc: Global,
     bank: &mut Bank,
     place: &Inside,
@@ -108,7 +84,7 @@ fn equality(syms: &Symbols, s: Term, t: Term) -> Option<QForm>
 
 /// The equality that two sides stand for.
 #[tactic(auto, using(crate::proofs::Owning::owning, crate::proofs::Spending::spending))]
-pub(crate) fn elaborate_equality(
+fn elaborate_equality(
     alloc: Global,
     bank: &mut Bank,
     place: &Inside,
@@ -131,13 +107,55 @@ pub(crate) fn elaborate_equality(
 
 /// What has no binder leaves the number of the next one.
 #[tactic(auto, using(crate::proofs::Owning::owning))]
-pub(crate) fn steady(read: Option<QForm>, next: u32) -> Option<(QForm, u32)>
+fn steady(read: Option<QForm>, next: u32) -> Option<(QForm, u32)>
     ensures tree { option_map bare_reading result ≡ option_map (λ a. (a, next)) (option_map bare_qform read) }
     ensures belongs { (b : Kept) → IfSome read (QFormBelongs b) → IfSome result (λ r. QFormBelongs b r.0) }
 {
     match read {
         None => None,
         Some(f) => Some((f, next)),
+    }
+}
+
+/// The atom, and the number of the next binder.
+#[tactic(auto, using(crate::proofs::Owning::owning, crate::proofs::Spending::spending))]
+pub(crate) fn steady_atom(
+    alloc: Global,
+    bank: &mut Bank,
+    place: &Inside,
+    next: u32,
+    name: &NameText,
+    args: &[TermSyntax],
+) -> Result<Option<(QForm, u32)>, NoMemory>
+    ensures tree { IfOk result (λ o. option_map bare_reading o ≡ option_map (λ a. (a, next)) (elaboration.atom_tree (spoken_at place.now) name.now (map (elaboration.elaborate_term (spoken_at place.now)) args.now))) }
+    ensures made { Spends bank.old bank.new (sum (map limits.term_cost args.now)) }
+    ensures extends { Extends bank.old bank.new }
+    ensures belongs { IfOk result (λ o. IfSome o (λ r. QFormBelongs bank.new r.0)) }
+{
+    match elaborate_atom(alloc, bank, place, name, args) {
+        Ok(read) => Ok(steady(read, next)),
+        Err(error) => Err(error),
+    }
+}
+
+/// The equality, and the number of the next binder.
+#[tactic(auto, using(crate::proofs::Owning::owning, crate::proofs::Spending::spending))]
+pub(crate) fn steady_equality(
+    alloc: Global,
+    bank: &mut Bank,
+    place: &Inside,
+    next: u32,
+    s: &TermSyntax,
+    t: &TermSyntax,
+) -> Result<Option<(QForm, u32)>, NoMemory>
+    ensures tree { IfOk result (λ o. option_map bare_reading o ≡ option_map (λ a. (a, next)) (elaboration.equality_tree (spoken_at place.now) (elaboration.elaborate_term (spoken_at place.now) s.now) (elaboration.elaborate_term (spoken_at place.now) t.now))) }
+    ensures made { Spends bank.old bank.new (limits.term_cost s.now + limits.term_cost t.now) }
+    ensures extends { Extends bank.old bank.new }
+    ensures belongs { IfOk result (λ o. IfSome o (λ r. QFormBelongs bank.new r.0)) }
+{
+    match elaborate_equality(alloc, bank, place, s, t) {
+        Ok(read) => Ok(steady(read, next)),
+        Err(error) => Err(error),
     }
 }
 
@@ -204,7 +222,7 @@ pub(crate) fn both(alloc: Global, a: QForm, b: QForm) -> Result<QForm, NoMemory>
 }
 
 /// The formula under a quantifier.
-pub(crate) fn quantify(
+fn quantify(
     alloc: Global,
     quantifier: Quantifier,
     binder: Binder,
@@ -216,5 +234,28 @@ pub(crate) fn quantify(
     match quantifier {
         Quantifier::All => Ok(QForm::All(binder, f)),
         Quantifier::Exists => Ok(QForm::Exists(binder, f)),
+    }
+}
+
+/// What was read, under a quantifier with this binder.
+#[tactic(auto, using(crate::proofs::Owning::owning))]
+pub(crate) fn bound(
+    alloc: Global,
+    quantifier: Quantifier,
+    binder: Binder,
+    read: Option<(QForm, u32)>,
+) -> Result<Option<(QForm, u32)>, NoMemory>
+    ensures tree { IfOk result (λ o. option_map bare_reading o ≡ option_map (λ a. (quantifier_tree quantifier binder.name binder.var a.0, a.1)) (option_map bare_reading read)) }
+    ensures belongs { (b : Kept) → IfSome read (λ r. QFormBelongs b r.0) → IfOk result (λ o. IfSome o (λ r. QFormBelongs b r.0)) }
+{
+    match read {
+        None => {
+            drop(binder);
+            Ok(None)
+        }
+        Some((f, last)) => match quantify(alloc, quantifier, binder, f) {
+            Ok(f) => Ok(Some((f, last))),
+            Err(error) => Err(error),
+        },
     }
 }

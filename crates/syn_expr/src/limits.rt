@@ -1,10 +1,10 @@
 // How many nodes what a syntax tree stands for will have, and how deep it will be: counted before
 // anything is made, and no further than a limit asks.
-ghost use Rattle.std.specs.Prelude.{◌≡◌, ◌+◌, map, max, min, sum};
+ghost use Rattle.std.specs.Prelude.{◌≡◌, ◌+◌, ◌<◌, ◌^◌, length, map, max, min, sum};
 ghost use Rattle.syn_term.specs.Terms.{greatest};
 ghost use Rattle.syn_expr.specs.Limits as limits;
 
-use syn_form::{FormSyntax, OutSyntax, TermSyntax};
+use syn_form::{BinderSyntax, FormSyntax, OutSyntax, TermSyntax};
 
 /// The most nodes that an expression has.
 pub(crate) const MOST_NODES: u32 = 4_096;
@@ -92,25 +92,64 @@ fn atom_levels(args: &[TermSyntax], cap: u32) -> u64
     capped(1 + deepest, cap)
 }
 
+/// One node and those of both terms, or `cap + 1` where these are more than `cap`.
+fn equality_cost(s: &TermSyntax, t: &TermSyntax, cap: u32) -> u64
+    ensures { result ≡ min (1 + (limits.term_cost s.now + limits.term_cost t.now)) (cap + 1) }
+{
+    capped(1 + (term_cost(s, cap) + term_cost(t, cap)), cap)
+}
+
+/// One more than the depth of the deeper term, or `cap + 1` where this is more than `cap`.
+fn equality_levels(s: &TermSyntax, t: &TermSyntax, cap: u32) -> u64
+    ensures { result ≡ min (1 + max (limits.term_levels s.now) (limits.term_levels t.now)) (cap + 1) }
+{
+    capped(1 + greater(term_levels(s, cap), term_levels(t, cap)), cap)
+}
+
+/// The number of binders and what is counted under them, or `cap + 1` where these are more than
+/// `cap`.
+fn with_binders(binders: &[BinderSyntax], inside: u64, cap: u32) -> u64
+    requires { inside < 2 ^ 33 }
+    ensures { result ≡ min (length binders.now + inside) (cap + 1) }
+{
+    capped(capped(binders.len() as u64, cap) + inside, cap)
+}
+
+/// One node and those of the formulas, or `cap + 1` where these are more than `cap`.
+#[cycle(costs)]
+fn forms_cost(all: &[FormSyntax], cap: u32) -> u64
+    ensures { result ≡ min (1 + sum (map limits.form_cost all.now)) (cap + 1) }
+{
+    let mut total: u64 = 1;
+    for part in all {
+        total = capped(total + form_cost(part, cap), cap);
+    }
+    total
+}
+
+/// One more than the depth of the deepest formula, or `cap + 1` where this is more than `cap`.
+#[cycle(levels)]
+fn forms_levels(all: &[FormSyntax], cap: u32) -> u64
+    ensures { result ≡ min (1 + greatest (map limits.form_levels all.now)) (cap + 1) }
+{
+    let mut deepest: u64 = 0;
+    for part in all {
+        deepest = greater(deepest, form_levels(part, cap));
+    }
+    capped(1 + deepest, cap)
+}
+
 /// The nodes of the formula, or `cap + 1` where there are more than `cap`.
+#[cycle(costs)]
 pub(crate) fn form_cost(f: &FormSyntax, cap: u32) -> u64
     ensures { result ≡ min (limits.form_cost f.now) (cap + 1) }
 {
     match f {
         FormSyntax::True | FormSyntax::False => 1,
         FormSyntax::Atom(_, args) => atom_cost(args.as_slice(), cap),
-        FormSyntax::Equal(s, t) => capped(
-            1 + (term_cost(s.get(), cap) + term_cost(t.get(), cap)),
-            cap,
-        ),
+        FormSyntax::Equal(s, t) => equality_cost(s.get(), t.get(), cap),
         FormSyntax::Not(a) => capped(1 + form_cost(a.get(), cap), cap),
-        FormSyntax::And(all) | FormSyntax::Or(all) => {
-            let mut total: u64 = 1;
-            for part in all.as_slice() {
-                total = capped(total + form_cost(part, cap), cap);
-            }
-            total
-        }
+        FormSyntax::And(all) | FormSyntax::Or(all) => forms_cost(all.as_slice(), cap),
         FormSyntax::Implies(a, b) => {
             capped(1 + (form_cost(a.get(), cap) + form_cost(b.get(), cap)), cap)
         }
@@ -121,35 +160,22 @@ pub(crate) fn form_cost(f: &FormSyntax, cap: u32) -> u64
             )
         }
         FormSyntax::Quantified(_, binders, a) => {
-            capped(
-                capped(binders.len() as u64, cap) + form_cost(a.get(), cap),
-                cap,
-            )
+            with_binders(binders.as_slice(), form_cost(a.get(), cap), cap)
         }
     }
 }
 
 /// The depth of the formula, or `cap + 1` where it is more than `cap`.
+#[cycle(levels)]
 pub(crate) fn form_levels(f: &FormSyntax, cap: u32) -> u64
     ensures { result ≡ min (limits.form_levels f.now) (cap + 1) }
 {
     match f {
         FormSyntax::True | FormSyntax::False => 1,
         FormSyntax::Atom(_, args) => atom_levels(args.as_slice(), cap),
-        FormSyntax::Equal(s, t) => {
-            capped(
-                1 + greater(term_levels(s.get(), cap), term_levels(t.get(), cap)),
-                cap,
-            )
-        }
+        FormSyntax::Equal(s, t) => equality_levels(s.get(), t.get(), cap),
         FormSyntax::Not(a) => capped(1 + form_levels(a.get(), cap), cap),
-        FormSyntax::And(all) | FormSyntax::Or(all) => {
-            let mut deepest: u64 = 0;
-            for part in all.as_slice() {
-                deepest = greater(deepest, form_levels(part, cap));
-            }
-            capped(1 + deepest, cap)
-        }
+        FormSyntax::And(all) | FormSyntax::Or(all) => forms_levels(all.as_slice(), cap),
         FormSyntax::Implies(a, b) => {
             capped(
                 1 + greater(form_levels(a.get(), cap), form_levels(b.get(), cap)),
@@ -163,10 +189,7 @@ pub(crate) fn form_levels(f: &FormSyntax, cap: u32) -> u64
             )
         }
         FormSyntax::Quantified(_, binders, a) => {
-            capped(
-                capped(binders.len() as u64, cap) + form_levels(a.get(), cap),
-                cap,
-            )
+            with_binders(binders.as_slice(), form_levels(a.get(), cap), cap)
         }
     }
 }

@@ -65,18 +65,30 @@ pub(crate) fn put_form(out: &mut String, place: &Inside, f: &Form) -> Result<(),
         Form::False => put(out, FALSE),
         Form::Atom(r, args) => put_atom(out, place, *r, args.get().as_slice()),
         Form::Equal(s, t) => put_equality(out, place, s, t),
-        Form::Not(a) => {
-            put(out, NOT)?;
-            put_inner(out, place, a.get())
-        }
+        Form::Not(a) => put_negation(out, place, a.get()),
         Form::And(all) => put_chain(out, place, AND, all.get().as_slice()),
         Form::Or(all) => put_chain(out, place, OR, all.get().as_slice()),
-        Form::Implies(a, b) => {
-            put_inner(out, place, a.get())?;
-            put(out, IMPLIES)?;
-            put_inner(out, place, b.get())
-        }
+        Form::Implies(a, b) => put_implication(out, place, a.get(), b.get()),
     }
+}
+
+/// Puts the negation of the formula.
+#[cycle(forms)]
+fn put_negation(out: &mut String, place: &Inside, a: &Form) -> Result<(), NoMemory>
+    ensures { OnOk result (string_bytes out.new ≡ string_bytes out.old ++ (codes "not " ++ inner (printing_of_form (spoken_at place.now) a.now))) }
+{
+    put(out, NOT)?;
+    put_inner(out, place, a)
+}
+
+/// Puts the implication from the first to the second.
+#[cycle(forms)]
+fn put_implication(out: &mut String, place: &Inside, a: &Form, b: &Form) -> Result<(), NoMemory>
+    ensures { OnOk result (string_bytes out.new ≡ string_bytes out.old ++ (inner (printing_of_form (spoken_at place.now) a.now) ++ codes " -> " ++ inner (printing_of_form (spoken_at place.now) b.now))) }
+{
+    put_inner(out, place, a)?;
+    put(out, IMPLIES)?;
+    put_inner(out, place, b)
 }
 
 /// Puts the formula as it stands inside another, in brackets where it has to.

@@ -1,6 +1,6 @@
 // The printer of formulas with quantifiers. A quantified formula inside another stands in brackets
 // too, and inside a quantifier its variable is printed by the name that the quantifier gives it.
-ghost use Rattle.std.specs.Prelude.{◌≡◌, ◌++◌, map, string_bytes, IfOk, OnOk};
+ghost use Rattle.std.specs.Prelude.{◌≡◌, ◌++◌, codes, map, string_bytes, IfOk, OnOk};
 ghost use Rattle.syn_form.specs.Printing.{in_scope_of, inner, joined, printed_qform, printing_of_qform};
 ghost use Rattle.syn_expr.specs.Readable.{IsReadableQForm};
 ghost use Rattle.syn_form.specs.Texts.{IsQFormOf};
@@ -50,20 +50,34 @@ fn put_qform(out: &mut String, place: &Inside, f: &QForm) -> Result<(), NoMemory
         QForm::False => put(out, FALSE),
         QForm::Atom(r, args) => put_atom(out, place, *r, args.get().as_slice()),
         QForm::Equal(s, t) => put_equality(out, place, s, t),
-        QForm::Not(a) => {
-            put(out, NOT)?;
-            put_inner_qform(out, place, a.get())
-        }
+        QForm::Not(a) => put_negation(out, place, a.get()),
         QForm::And(all) => put_qform_chain(out, place, AND, all.get().as_slice()),
         QForm::Or(all) => put_qform_chain(out, place, OR, all.get().as_slice()),
         QForm::Implies(a, b) => {
             put_inner_qform(out, place, a.get())?;
-            put(out, IMPLIES)?;
-            put_inner_qform(out, place, b.get())
+            put_implied(out, place, b.get())
         }
         QForm::All(b, a) => put_quantified(out, place, "all ", b, a.get()),
         QForm::Exists(b, a) => put_quantified(out, place, "some ", b, a.get()),
     }
+}
+
+/// Puts the negation of the formula.
+#[cycle(qforms)]
+fn put_negation(out: &mut String, place: &Inside, a: &QForm) -> Result<(), NoMemory>
+    ensures { OnOk result (string_bytes out.new ≡ string_bytes out.old ++ (codes "not " ++ inner (printing_of_qform a.now (spoken_at place.now)))) }
+{
+    put(out, NOT)?;
+    put_inner_qform(out, place, a)
+}
+
+/// Puts the arrow of an implication, and its right side.
+#[cycle(qforms)]
+fn put_implied(out: &mut String, place: &Inside, b: &QForm) -> Result<(), NoMemory>
+    ensures { OnOk result (string_bytes out.new ≡ string_bytes out.old ++ (codes " -> " ++ inner (printing_of_qform b.now (spoken_at place.now)))) }
+{
+    put(out, IMPLIES)?;
+    put_inner_qform(out, place, b)
 }
 
 /// Puts the formula as it stands inside another, in brackets where it has to.

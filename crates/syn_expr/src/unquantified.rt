@@ -10,7 +10,17 @@ use crate::pairs::both_shared;
 use sqlite_items::Items;
 use std::alloc::Global;
 use syn_form::{Form, QForm};
-use syn_term::{NoMemory, Shared, Term};
+use syn_term::{NoMemory, Shared, SymId, Term};
+
+/// The atom of the same terms.
+fn atom(r: SymId, args: &Shared<Items<Term>>) -> Result<Option<Form>, NoMemory>
+    ensures { IfOk result (λ o. o ≡ Some (variant.Atom r args.now)) }
+{
+    match args.again() {
+        Ok(args) => Ok(Some(Form::Atom(r, args))),
+        Err(_) => Err(NoMemory),
+    }
+}
 
 /// The equality of the same terms.
 fn equality(s: &Term, t: &Term) -> Result<Option<Form>, NoMemory>
@@ -74,31 +84,58 @@ pub(crate) fn without_quantifiers(alloc: Global, f: &QForm) -> Result<Option<For
     match f {
         QForm::True => Ok(Some(Form::True)),
         QForm::False => Ok(Some(Form::False)),
-        QForm::Atom(r, args) => match args.again() {
-            Ok(args) => Ok(Some(Form::Atom(*r, args))),
-            Err(_) => Err(NoMemory),
-        },
+        QForm::Atom(r, args) => atom(*r, args),
         QForm::Equal(s, t) => equality(s, t),
-        QForm::Not(a) => negation(alloc, without_quantifiers(alloc, a.get())?),
-        QForm::And(all) => conjunction(alloc, all_without(alloc, all.get().as_slice())?),
-        QForm::Or(all) => disjunction(alloc, all_without(alloc, all.get().as_slice())?),
-        QForm::Implies(a, b) => {
-            let Some(a) = without_quantifiers(alloc, a.get())? else {
-                return Ok(None);
-            };
-            match without_quantifiers(alloc, b.get()) {
-                Ok(Some(b)) => implication(alloc, a, b),
-                Ok(None) => {
-                    drop(a);
-                    Ok(None)
-                }
-                Err(error) => {
-                    drop(a);
-                    Err(error)
-                }
-            }
-        }
+        QForm::Not(a) => negation_without(alloc, a.get()),
+        QForm::And(all) => conjunction_without(alloc, all.get().as_slice()),
+        QForm::Or(all) => disjunction_without(alloc, all.get().as_slice()),
+        QForm::Implies(a, b) => match without_quantifiers(alloc, a.get())? {
+            None => Ok(None),
+            Some(a) => implication_without(alloc, b.get(), a),
+        },
         QForm::All(_, _) | QForm::Exists(_, _) => Ok(None),
+    }
+}
+
+/// The negation of the formula; None where that has a quantifier.
+#[cycle(unquantified)]
+fn negation_without(alloc: Global, a: &QForm) -> Result<Option<Form>, NoMemory>
+    ensures { IfOk result (λ o. o ≡ option_map view.Not (unquantified a.now)) }
+{
+    negation(alloc, without_quantifiers(alloc, a)?)
+}
+
+/// The `and` of the formulas; None where one has a quantifier.
+#[cycle(unquantified)]
+fn conjunction_without(alloc: Global, all: &[QForm]) -> Result<Option<Form>, NoMemory>
+    ensures { IfOk result (λ o. o ≡ option_map view.And (all_there (map unquantified all.now))) }
+{
+    conjunction(alloc, all_without(alloc, all)?)
+}
+
+/// The `or` of the formulas; None where one has a quantifier.
+#[cycle(unquantified)]
+fn disjunction_without(alloc: Global, all: &[QForm]) -> Result<Option<Form>, NoMemory>
+    ensures { IfOk result (λ o. o ≡ option_map view.Or (all_there (map unquantified all.now))) }
+{
+    disjunction(alloc, all_without(alloc, all)?)
+}
+
+/// The implication from a formula without quantifiers to `b`; None where that has a quantifier.
+#[cycle(unquantified)]
+fn implication_without(alloc: Global, b: &QForm, a: Form) -> Result<Option<Form>, NoMemory>
+    ensures { IfOk result (λ o. o ≡ option_map (view.Implies a) (unquantified b.now)) }
+{
+    match without_quantifiers(alloc, b) {
+        Ok(Some(b)) => implication(alloc, a, b),
+        Ok(None) => {
+            drop(a);
+            Ok(None)
+        }
+        Err(error) => {
+            drop(a);
+            Err(error)
+        }
     }
 }
 

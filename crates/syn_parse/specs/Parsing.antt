@@ -1,4 +1,4 @@
--- Public. Which syntax trees words stand for, and texts, as far as they are read: nothing in them is higher than 1,264.
+-- Public. Which syntax trees words stand for, and texts, as far as they are read: nothing in them is higher than `max_height`.
 use Rattle.std.specs.Prelude.{◌≡◌, ℕ, ◌≤◌, List, Option, None, Some}
 use Rattle.syn_term.specs.Tokens.{Word}
 use Rattle.syn_form.specs.declared.syntax.TermSyntax.{TermSyntax}
@@ -6,7 +6,7 @@ use Rattle.syn_form.specs.declared.syntax.FormSyntax.{FormSyntax}
 use Rattle.syn_form.specs.declared.syntax.OutSyntax.{OutSyntax}
 use Rattle.syn_form.specs.Grammar.{FormText, OutText, words_of_term, words_of_form, words_of_out, syntax_of_form, syntax_of_out}
 use Rattle.syn_form.specs.Texts.{IsTextOf}
-use Rattle.syn_parse.specs.Heights.{height_of, out_height}
+use Rattle.syn_parse.specs.Heights.{height_of, max_height, out_height}
 use Rattle.syn_parse.specs.Lexemes.{IsWrittenBy}
 use Rattle.syn_parse.specs.Written.{Written, WrittenForm, WrittenOut}
 
@@ -21,7 +21,7 @@ pub record IsFormSyntaxOfWords (words : List Word) (f : FormSyntax) : Type 0 whe
   pub lexemes : IsWrittenBy words (words_of_form reading)
   pub written : WrittenForm reading
   pub tree : syntax_of_form reading ≡ f
-  pub low : height_of f ≤ 1264
+  pub low : height_of f ≤ max_height
 
 -- the same for outputs
 pub record IsOutSyntaxOfWords (words : List Word) (o : OutSyntax) : Type 0 where
@@ -29,7 +29,7 @@ pub record IsOutSyntaxOfWords (words : List Word) (o : OutSyntax) : Type 0 where
   pub lexemes : IsWrittenBy words (words_of_out reading)
   pub written : WrittenOut reading
   pub tree : syntax_of_out reading ≡ o
-  pub low : out_height o ≤ 1264
+  pub low : out_height o ≤ max_height
 
 -- the text is one line of words that the syntax tree is that of, with blanks between and at most a comment behind them
 abbrev pub IsTermSyntaxOf : List ℕ → TermSyntax → Type 0

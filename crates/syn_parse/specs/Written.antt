@@ -5,6 +5,7 @@ use Rattle.syn_form.specs.declared.syntax.HeadName.TheVariants as head
 use Rattle.syn_form.specs.declared.syntax.TermSyntax.{TermSyntax, fold-TermSyntax}
 use Rattle.syn_form.specs.declared.syntax.TermSyntax.TheOpen.{TermSyntax-F}
 use Rattle.syn_form.specs.declared.syntax.TermSyntax.TheViews as term_view
+use Rattle.syn_parse.specs.Heights.{max_height}
 use Rattle.syn_form.specs.Grammar.{UnaryText, ConjText, DisjText, ImpText, FormText, OutText, truth, falsity, atom, equality, no, bracket, one_unary, and_also, one_conj, or_also, one_disj, implies, one_imp, both_ways, quantified, give, choice}
 
 abbrev pub term_height_step : TermSyntax-F ℕ → ℕ
@@ -31,7 +32,7 @@ has_args = fold-TermSyntax Bool has_args_step
 
 -- a term that is read
 abbrev pub Written : TermSyntax → Type 0
-Written t = (has_args t ≡ true) × (term_height t ≤ 1264)
+Written t = (has_args t ≡ true) × (term_height t ≤ max_height)
 
 abbrev mutual
   -- a reading whose terms are all read, and whose quantifiers bind a name or more

@@ -8,6 +8,7 @@ use Rattle.syn_term.specs.Symbols.{SymbolTable, first_symbols}
 use Rattle.syn_term.specs.Terms.{TermTree, bare}
 use Rattle.syn_app.specs.declared.trees.Out.TheVariants as out
 use Rattle.syn_app.specs.Trees.{ProgramTree, input_symbol}
+use Rattle.syn_app.specs.Bounds.{largest_numeral}
 use Rattle.syn_app.specs.ProgramText.{Printed, print_step}
 use Rattle.syn_app.specs.SpecText.{nat_declared}
 
@@ -15,10 +16,10 @@ use Rattle.syn_app.specs.SpecText.{nat_declared}
 abbrev pub printing_of : SymbolTable → TermTree → Printed
 printing_of table = fold-Node Printed (print_step table)
 
--- the number after this one, where it is at most 1,000
+-- the number after this one, where it is at most `largest_numeral`
 abbrev pub next_number : Option ℕ → Option ℕ
 next_number None = None
-next_number (Some n) = if nat_lt n 1000 then Some (n + 1) else None
+next_number (Some n) = if nat_lt n largest_numeral then Some (n + 1) else None
 
 -- the program with this name and one input, a number, that gives the value of the body, a number too
 abbrev pub nat_program : List ℕ → List ℕ → TermTree → ProgramTree

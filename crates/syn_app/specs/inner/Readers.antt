@@ -12,11 +12,12 @@ use Rattle.syn_app.specs.declared.flat.Step.TheVariants as step
 use Rattle.syn_app.specs.DerivationText.{AreRows, IsStep, first_line, row_lines}
 use Rattle.syn_lex.specs.TextLines.{ExtendsAt, IsCut, IsFirstBad}
 use Rattle.syn_app.specs.SpecText.{ProgramNames, AreProgramNames, IsCondition, spec_line, program_line, ensures_line}
+use Rattle.syn_app.specs.Bounds.{most_nodes}
 use Rattle.syn_app.specs.Terms.{IsBase, term_text}
 
 -- The term is one that a text may have, with no more successors than an expression may have nodes.
 abbrev pub IsTerm : FlatTerm → Type 0
-IsTerm r = IsBase r.base × (r.successors ≤ 4096)
+IsTerm r = IsBase r.base × (r.successors ≤ most_nodes)
 
 -- A file is refused at its first bad line, or for want of memory.
 abbrev pub Refuses : (List (List ℕ) → List ℕ → Type 0) → (List (List ℕ) → Type 0) → List ℕ → FileError → Type 0

@@ -8,7 +8,7 @@ use Rattle.syn_form.specs.declared.syntax.BinderSyntax.{BinderSyntax}
 use Rattle.syn_form.specs.Elaboration.{binder_sort, is_free, numbered_var, sorted_application, symbol_named}
 use Rattle.syn_form.specs.Quantified.{bare_qform}
 use Rattle.syn_form.specs.Scopes.{TextScope}
-use Rattle.syn_form.specs.Trees.{QFormTree}
+use Rattle.syn_form.specs.Trees.{OutTree, QFormTree, bare_out}
 
 -- `s` over a term
 abbrev pub next_tree : SymbolTable → TermTree → Option TermTree
@@ -24,3 +24,11 @@ bare_reading r = (bare_qform r.0, r.1)
 
 abbrev pub bare_readings : List QFormTree × ℕ → List QFormTree × ℕ
 bare_readings r = (map bare_qform r.0, r.1)
+
+-- the two arms of a choice, their places left out
+abbrev pub bare_arms : OutTree × OutTree → OutTree × OutTree
+bare_arms r = (bare_out r.0, bare_out r.1)
+
+-- the two arms, where both are there
+abbrev pub both_there : Option OutTree → Option OutTree → Option (OutTree × OutTree)
+both_there u v = option_and_then (λ x. option_map (λ y. (x, y)) v) u

@@ -1,7 +1,7 @@
 -- For private contracts: what a text may speak of at a place inside it, and what printers put.
 use Rattle.std.specs.Prelude.{ℕ, ◌+◌, List, [], ◌∷◌, ◌++◌, Option, None, Some, codes, map, if◌then◌else◌, nat_lt}
 use Rattle.syn_term.specs.Terms.{TermTree}
-use Rattle.syn_form.specs.Scopes.{Named, TextScope}
+use Rattle.syn_form.specs.Scopes.{Named, TextScope, largest_numeral}
 use Rattle.syn_form.specs.declared.trees.Binder.{Binder}
 use Rattle.syn_form.specs.Printing.{joined, printed_term, sort_text}
 use Rattle.syn_expr.specs.Scopes.{listed}
@@ -30,10 +30,10 @@ bracketed (t ∷ ts) = codes "(" ++ joined (codes ", ") (t ∷ ts) ++ codes ")"
 abbrev pub arguments_text : TextScope → List TermTree → List ℕ
 arguments_text scope args = bracketed (map (printed_term scope) args)
 
--- the number after this one, where it is at most 1,000
+-- the number after this one, where it is at most `largest_numeral`
 abbrev pub next_number : Option ℕ → Option ℕ
 next_number None = None
-next_number (Some n) = if nat_lt n 1000 then Some (n + 1) else None
+next_number (Some n) = if nat_lt n largest_numeral then Some (n + 1) else None
 
 -- a quantifier up to its formula, as in `all x: nat. `
 abbrev pub binder_text : TextScope → List ℕ → Binder → List ℕ

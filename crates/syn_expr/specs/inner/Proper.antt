@@ -2,6 +2,7 @@
 use Rattle.std.specs.Prelude.{ℕ, Bool, true, false, not, ◌&&◌, ◌||◌, List, [], ◌∷◌, codes, map, nat_lt}
 use Rattle.std.specs.Str.{bytes_eq}
 use Rattle.syn_term.specs.Tokens.{is_reserved}
+use Rattle.syn_form.specs.Scopes.{largest_numeral}
 use Rattle.syn_form.specs.declared.syntax.HeadName.{HeadName}
 use Rattle.syn_form.specs.declared.syntax.HeadName.TheVariants as head
 use Rattle.syn_form.specs.declared.syntax.BinderSyntax.{BinderSyntax}
@@ -29,12 +30,12 @@ proper_applied h [] = false
 proper_applied h (b ∷ bs) = is_proper_head h && all_true (b ∷ bs)
 
 abbrev pub proper_term_step : TermSyntax-F Bool → Bool
-proper_term_step (TermSyntax-F.Number k) = not (nat_lt 1000 k)
+proper_term_step (TermSyntax-F.Number k) = not (nat_lt largest_numeral k)
 proper_term_step (TermSyntax-F.RowVar k s) = true
 proper_term_step (TermSyntax-F.Alone h) = is_proper_head h
 proper_term_step (TermSyntax-F.Applied h args) = proper_applied h args
 
--- numbers are at most 1,000, brackets have arguments, and of the reserved words `s` alone is a head
+-- numbers are at most `largest_numeral`, brackets have arguments, and of the reserved words `s` alone is a head
 abbrev pub is_proper_term : TermSyntax → Bool
 is_proper_term = fold-TermSyntax Bool proper_term_step
 

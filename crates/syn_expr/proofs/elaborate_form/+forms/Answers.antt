@@ -1,11 +1,12 @@
-use Rattle.std.proofs.Common.{◌≡◌, ◌+◌, ◌*◌, ◌<◌, None, Some, ◌∙◌, subst, arith}
+use Rattle.std.proofs.Common.{◌≡◌, ◌+◌, ◌*◌, ◌<◌, Some, sym, ◌∙◌, subst, arith}
+use Rattle.std.proofs.lemmas.Result.{IfOk-weaker}
 use Rattle.syn_term.specs.Bank.{Extends-trans}
 use Rattle.syn_form.specs.declared.syntax.FormSyntax.{FormSyntax}
 use Rattle.syn_form.specs.Elaboration.{elaborate_form}
 use Rattle.syn_expr.specs.Limits.{form_cost}
 use Rattle.syn_expr.specs.inner.Spending.{Spends}
 use Rattle.syn_expr.specs.inner.Places.{spoken_at}
-use Rattle.syn_expr.proofs.FormMaking.{both, form_read, not_bound, none_inside, put_under}
+use Rattle.syn_expr.proofs.FormMaking.{both, bound_whole, form_read, not_bound}
 use Rattle.syn_expr.proofs.Owning.{all_own, some_owned}
 use Rattle.syn_expr.proofs.Spending.{back_spent, item_spent, items_spent, quantified_spent}
 use Rattle.syn_expr.proofs.Weights.{weight, weighs_less}
@@ -29,28 +30,24 @@ elaborate_forms-loop-syntax-preserved t c =
 pub quantified-returns-in_default-clause-tree : goal.quantified-returns-in_default-clause-tree
 quantified-returns-in_default-clause-tree t c = not_bound (spoken_at c.args.place.now) c.args.quantifier _ _ (elaborate_form c.args.a.now) _ _ c.in-len1-up.len_at_least c.binder-item.is c.binder_var.ensures c.in_default.is
 
-pub quantified-returns-in-Ok-None-clause-tree : goal.quantified-returns-in-Ok-None-clause-tree
-quantified-returns-in-Ok-None-clause-tree t c =
-    let next : c.in-Some-checked_add.after ≡ c.args.next + 1 = omega (arith, c.in-Some-checked_add.ensures) in
-    let none : c.in-Ok-None.field-0 ≡ None = cc in
-    none_inside (spoken_at c.args.place.now) c.args.quantifier _ _ (elaborate_form c.args.a.now) _ _ c.in-len1-up.len_at_least c.binder-item.is c.binder_var.ensures
-    _ _ _ _ _ c.in-Some.is (c.in_ok-name-in-len1-up.ensures ∙ c.as_str.ensures) c.within-place.ensures next c.in-Ok-None.ensures.tree none
-
 pub quantified-returns-in-Ok-clause-tree : goal.quantified-returns-in-Ok-clause-tree
 quantified-returns-in-Ok-clause-tree t c =
     let next : c.in-Some-checked_add.after ≡ c.args.next + 1 = omega (arith, c.in-Some-checked_add.ensures) in
-    let read : c.in-Ok-Some.field-0 ≡ Some (both c.in-Ok-Some.f c.in-Ok-Some.last) = cc in
-    put_under (spoken_at c.args.place.now) c.args.quantifier _ _ (elaborate_form c.args.a.now) _ _ c.in-len1-up.len_at_least c.binder-item.is c.binder_var.ensures
-    _ _ _ _ _ c.in-Some.is (c.in_ok-name-in-len1-up.ensures ∙ c.as_str.ensures) c.within-place.ensures next c.in-Ok-Some.ensures.tree _ _ _ read c.in-Ok.ensures
+    IfOk-weaker c.bound.result _ _
+    (λ r h. h ∙ sym (bound_whole (spoken_at c.args.place.now) c.args.quantifier _ _ (elaborate_form c.args.a.now) _ _ c.in-len1-up.len_at_least c.binder-item.is c.binder_var.ensures
+    _ _ _ _ _ c.in-Some.is (c.in_ok-name-in-len1-up.ensures ∙ c.as_str.ensures) c.within-place.ensures next c.in-Ok.ensures.tree)) c.bound.ensures.tree
 
-pub elaborate_form-returns-in-Ok-elaborate_form-clause-belongs : goal.elaborate_form-returns-in-Ok-elaborate_form-clause-belongs
-elaborate_form-returns-in-Ok-elaborate_form-clause-belongs t c = c.negated.ensures.belongs _ c.in-Ok-elaborate_form.ensures.belongs
+pub quantified-returns-in-Ok-clause-belongs : goal.quantified-returns-in-Ok-clause-belongs
+quantified-returns-in-Ok-clause-belongs t c = c.bound.ensures.belongs _ c.in-Ok.ensures.belongs
 
-pub elaborate_form-returns-in-Ok-elaborate_forms-clause-belongs : goal.elaborate_form-returns-in-Ok-elaborate_forms-clause-belongs
-elaborate_form-returns-in-Ok-elaborate_forms-clause-belongs t c = c.conjunction.ensures.belongs _ c.in-Ok-elaborate_forms.ensures.belongs
+pub negation-returns-in-Ok-clause-belongs : goal.negation-returns-in-Ok-clause-belongs
+negation-returns-in-Ok-clause-belongs t c = c.negated.ensures.belongs _ c.in-Ok.ensures.belongs
 
-pub elaborate_form-returns-in-Ok-elaborate_forms-2-clause-belongs : goal.elaborate_form-returns-in-Ok-elaborate_forms-2-clause-belongs
-elaborate_form-returns-in-Ok-elaborate_forms-2-clause-belongs t c = c.disjunction.ensures.belongs _ c.in-Ok-elaborate_forms-2.ensures.belongs
+pub members_and-returns-in-Ok-clause-belongs : goal.members_and-returns-in-Ok-clause-belongs
+members_and-returns-in-Ok-clause-belongs t c = c.conjunction.ensures.belongs _ c.in-Ok.ensures.belongs
+
+pub members_or-returns-in-Ok-clause-belongs : goal.members_or-returns-in-Ok-clause-belongs
+members_or-returns-in-Ok-clause-belongs t c = c.disjunction.ensures.belongs _ c.in-Ok.ensures.belongs
 
 pub elaborate_forms-returns-in_err-elaborate_form-clause-made : goal.elaborate_forms-returns-in_err-elaborate_form-clause-made
 elaborate_forms-returns-in_err-elaborate_form-clause-made t c = items_spent _ _ _ _ c.loop-syntax-test.true c.syntax-item.is _ _ _ c.loop-syntax.invariant.3 c.elaborate_form.ensures.made

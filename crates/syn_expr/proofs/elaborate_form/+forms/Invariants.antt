@@ -14,6 +14,15 @@ use Rattle.syn_expr.proofs.elaborate_form.+forms.Given as goal
 abbrev pub decreases-elaborate_form : goal.decreases-elaborate_form
 decreases-elaborate_form l = 4 * weight l.syntax.now
 
+abbrev pub decreases-negation : goal.decreases-negation
+decreases-negation l = 4 * weight l.a.now + 1
+
+abbrev pub decreases-members_and : goal.decreases-members_and
+decreases-members_and l = 4 * sum (map weight l.all.now) + 2
+
+abbrev pub decreases-members_or : goal.decreases-members_or
+decreases-members_or l = 4 * sum (map weight l.all.now) + 2
+
 abbrev pub decreases-elaborate_forms : goal.decreases-elaborate_forms
 decreases-elaborate_forms l = 4 * sum (map weight l.all.now) + 1
 

@@ -4,7 +4,7 @@ use Rattle.std.proofs.lemmas.Result.{IfOk-weaker}
 use Rattle.syn_form.specs.Printing.{inner, printing_of_qform}
 use Rattle.syn_form.specs.Scopes.{TextScope}
 use Rattle.syn_expr.specs.inner.Places.{binder_text, spoken_at}
-use Rattle.syn_expr.proofs.Pieces.{item_put, whole_put, two_put, three_put}
+use Rattle.syn_expr.proofs.Pieces.{item_put, rest_put, whole_put, two_put}
 use Rattle.syn_expr.proofs.QFormTexts.{inner_qtext, and_text, or_text, implies_text, all_text, some_text}
 use Rattle.syn_expr.proofs.print_qforms.+qforms.Goals as goal
 
@@ -14,8 +14,14 @@ put_qform-returns-in-And t c = IfOk-weaker c.put_qform_chain.result _ _ (λ x h.
 pub put_qform-returns-in-Or : goal.put_qform-returns-in-Or
 put_qform-returns-in-Or t c = IfOk-weaker c.put_qform_chain-in-Or.result _ _ (λ x h. whole_put _ _ _ _ (or_text (spoken_at c.args.place.now) c.args.f.now _ _ c.in-Or.is (c.as_slice-in-Or.ensures ∙ c.get-in-Or.ensures)) h) c.put_qform_chain-in-Or.ensures
 
-pub put_qform-returns-in_ok-put-in-Implies : goal.put_qform-returns-in_ok-put-in-Implies
-put_qform-returns-in_ok-put-in-Implies t c = IfOk-weaker c.put_inner_qform-in-Implies-2.result _ _ (λ x h. three_put _ _ _ _ _ _ _ _ (implies_text (spoken_at c.args.place.now) c.args.f.now _ _ _ _ c.in-Implies.is c.get-in-Implies.ensures c.get-in-Implies-2.ensures) c.in_ok-put_inner_qform-in-Implies.ensures c.in_ok-put-in-Implies.ensures h) c.put_inner_qform-in-Implies-2.ensures
+pub put_qform-returns-in_ok-put_inner_qform-in-Implies : goal.put_qform-returns-in_ok-put_inner_qform-in-Implies
+put_qform-returns-in_ok-put_inner_qform-in-Implies t c = IfOk-weaker c.put_implied.result _ _ (λ x h. rest_put _ _ _ _ _ _ _ (implies_text (spoken_at c.args.place.now) c.args.f.now _ _ _ _ c.in-Implies.is c.get-in-Implies.ensures c.get-in-Implies-2.ensures) c.in_ok-put_inner_qform-in-Implies.ensures h) c.put_implied.ensures
+
+pub put_negation-returns : goal.put_negation-returns
+put_negation-returns t c = IfOk-weaker c.put_inner_qform.result _ _ (λ x h. two_put _ _ _ _ _ _ refl c.in_ok-put.ensures h) c.put_inner_qform.ensures
+
+pub put_implied-returns : goal.put_implied-returns
+put_implied-returns t c = IfOk-weaker c.put_inner_qform.result _ _ (λ x h. two_put _ _ _ _ _ _ refl c.in_ok-put.ensures h) c.put_inner_qform.ensures
 
 pub put_qform-returns-in-All : goal.put_qform-returns-in-All
 put_qform-returns-in-All t c = IfOk-weaker c.put_quantified.result _ _ (λ x h. whole_put _ _ _ _ (all_text (spoken_at c.args.place.now) c.args.f.now _ _ _ _ c.in-All.is c.get-in-All.ensures refl) h) c.put_quantified.ensures
