@@ -43,7 +43,7 @@ fn is_new_input(theory: &Theory, input: &(String, Sort)) -> bool
 }
 
 /// Whether each input has a name that nothing declared has.
-fn are_new_inputs(theory: &Theory, inputs: &[(String, Sort)]) -> bool
+pub fn are_new_inputs(theory: &Theory, inputs: &[(String, Sort)]) -> bool
     ensures { IsTrue result ↔ All (λ p. IsNewName (theory.now).decls (given_name p)) inputs.now }
 {
     for input in inputs {
@@ -105,7 +105,7 @@ fn are_new_names(theory: &Theory, program: &str, inputs: &[(String, Sort)]) -> b
 }
 
 /// Whether the names of the program and of its inputs differ.
-fn are_distinct_names(program: &str, inputs: &[(String, Sort)]) -> bool
+pub fn are_distinct_names(program: &str, inputs: &[(String, Sort)]) -> bool
     ensures { IsTrue result ↔ All (λ p. given_name p ≢ program.now) inputs.now × AreDistinct (map given_name inputs.now) }
 {
     are_others(inputs, program) && are_distinct_inputs(inputs)

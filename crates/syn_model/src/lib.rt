@@ -28,7 +28,7 @@ mod turns;
 mod uses;
 
 pub use decl::Decl;
-pub use heads::{Head, Param};
+pub use heads::{Head, Param, are_distinct_names, are_new_inputs};
 pub use spec::Spec;
 pub use spec_part::SpecPart;
 pub use theory::{DeclError, Theory};
