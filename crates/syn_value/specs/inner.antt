@@ -1,0 +1,5 @@
+pub mod Nodes
+pub mod Sorting
+pub mod Printing
+pub mod Machine
+pub mod Applying
