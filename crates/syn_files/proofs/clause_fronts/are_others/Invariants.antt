@@ -1,0 +1,6 @@
+use Rattle.std.proofs.Common.{◌≢◌, All, take}
+use Rattle.syn_files.specs.inner.ClauseReading.{text_of}
+use Rattle.syn_files.proofs.clause_fronts.are_others.Given as goal
+
+abbrev pub invariant-loop-name : goal.invariant-loop-name
+invariant-loop-name l = All (λ e. text_of e ≢ l.text) (take l.name-index l.names)

@@ -1,0 +1,6 @@
+pub mod Words
+pub mod TheoryLines
+pub mod SpecLines
+pub mod Printed
+pub mod PrintedSpec
+pub mod inner

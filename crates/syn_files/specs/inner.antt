@@ -1,0 +1,10 @@
+pub mod Firsts
+pub mod SimpleLines
+pub mod Telling
+pub mod SpecWords
+pub mod SpecTelling
+pub mod Entries
+pub mod ClauseWords
+pub mod Params
+pub mod Orders
+pub mod ClauseReading

@@ -1,0 +1,12 @@
+//! Tables of theory and specification files: texts that are read and printed again, and texts with one
+//! wrong line, each with the line that is refused.
+#![tactic(auto)]
+
+#[cfg(test)]
+mod answers;
+#[cfg(test)]
+mod printed;
+#[cfg(test)]
+mod specifications;
+#[cfg(test)]
+mod theories;

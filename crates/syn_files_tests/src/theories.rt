@@ -1,0 +1,290 @@
+// Lines behind those of a theory, and the line that is refused, counted from the first of them.
+use crate::answers::{BASE, bad_theory_line, put_lines, wanted};
+use std::alloc::Global;
+use std::process::Abort;
+use std::test::Fail;
+use syn_cases::cut;
+
+/// Blank lines, comments, and what isn't tokens.
+const BLANKS: &str = "\
+# a comment => yes
+ => yes
+ // \t# one\r // axiom a : le ( 0 , 0 ) # behind => yes
+\taxiom\ta:\tle(0,0)\r => yes
+axiom a: le(0, 0) @ => 1
+axiom a: le(0, 007) => 1
+axiom a: le(0, 12345678) => 1
+theory again => 1
+nothing a: true => 1
+true => 1";
+
+const SORTS: &str = "\
+sort M = e | c(nat, M) => yes
+sort M = e | c(P, M) => yes
+sort M = e | c(M, M) => 1
+sort M = e | c(nat, L) => 1
+sort M = e | c(N, M) => 1
+sort M = M | c(nat, M) => 1
+sort M = e | e(nat, M) => 1
+sort M = nil | c(nat, M) => 1
+sort M = e | c(nat) => 1
+sort M = e c(nat, M) => 1
+sort M = e | c(nat, M) more => 1
+sort L = e | c(nat, L) => 1
+sort refl = e | c(nat, refl) => 1
+sort nat = e | c(nat, nat) => 1
+sort Q = two(nat, L) => yes
+sort Q = four(nat, L, P, nat) => yes
+sort Q = five(nat, nat, nat, nat, nat) => 1
+sort Q = one(nat) => 1
+sort Q = none() => 1
+sort Q = two(nat, Q) => 1
+sort Q = Q(nat, nat) => 1
+sort Q = two(nat,) => 1
+sort A = a(P, P, P, P) // sort B = b(A, A, A, A) // sort C = c(P, P, P) // sort D = d(B, C) => yes
+sort A = a(P, P, P, P) // sort B = b(A, A, A, A) // sort C = c(P, P, P) // sort D = d(B, C, nat) => 4";
+
+const HEADINGS: &str = "\
+fun f(nat): nat // clause f(x) = x => yes
+fun f(nat): nat => 2
+fun f(): nat => 1
+fun f(nat) => 1
+fun f: nat => 1
+fun f(nat): M => 1
+fun f(M): nat => 1
+fun f(nat nat): nat => 1
+fun p(nat): nat => 1
+fun refl(nat): nat => 1
+fun trans(nat): nat => 1
+fun s(nat): nat => 1
+fun all(nat): nat => 1
+fun base(nat): nat // clause base(x) = x => yes
+fun sort(nat): nat // clause sort(x) = x => yes
+fun f(nat): nat // axiom a: true => 2
+fun f(nat): nat // fun g(nat): nat => 2
+rel r(nat) // clause r(x) <-> true => yes
+rel r(nat): nat => 1
+rel r() => 1
+rel r(nat) => 2
+rel le(nat) => 1";
+
+const CLAUSES: &str = "\
+clause p(x) = x => 1
+fun f(nat): nat // clause f(x) <-> true => 2
+fun f(nat): nat // clause g(x) = x => 2
+fun f(nat): nat // clause f(x, y) = x => 2
+fun f(nat): nat // clause f = 0 => 2
+fun f(nat): nat // clause f(x) = => 2
+fun f(nat): nat // clause f(p) = 0 => 2
+fun f(nat): nat // clause f(le) = 0 => 2
+fun f(nat): nat // clause f(refl) = 0 => 2
+fun f(nat): nat // clause f(L) = 0 => 2
+fun f(nat): nat // clause f(f) = 0 => 2
+fun f(nat): nat // clause f(true) = 0 => 2
+fun f(nat): nat // clause f(1) = 0 => 2
+fun f(nat): nat // clause f(?1) = 0 => 2
+fun f(nat, nat): nat // clause f(x, x) = x => 2
+fun f(nat, nat): nat // clause f(x, y) = z => 2
+fun f(nat, nat): nat // clause f(0, 0) = 0 => 2
+fun f(nat): nat // clause f(s(x)) = x => 2
+fun f(nat): nat // clause f(nil) = 0 => 2
+fun f(nat): nat // clause f(0) = 0 => 3
+fun f(nat): nat // clause f(0) = 0 // clause f(0) = 0 => 3
+fun f(nat): nat // clause f(0) = 0 // clause f(x) = 0 => 3
+fun f(nat): nat // clause f(0) = 0 // clause f(s(0)) = 0 => 3
+fun f(nat): nat // clause f(0) = 0 // clause f(s(s(x))) = 0 => 3
+fun f(nat): nat // clause f(0) = 0 // clause f(s(x)) = f(x) => yes
+fun f(nat): nat // clause f(0) = 0 // clause f(s(x)) = f(s(x)) => 3
+fun f(nat): nat // clause f(0) = 0 // clause f(s(x)) = f(0) => 3
+fun f(nat): nat // clause f(0) = f(0) => 2
+fun f(nat): nat // clause f(x) = f(x) => 2
+fun f(nat): nat // clause f(0) = 0 // clause f(s(x)) = x // clause f(s(x)) = x => 4
+fun f(nat, nat): nat // clause f(x, 0) = x // clause f(s(x), y) = y => 3
+fun f(nat, nat): nat // clause f(x, 0) = x // clause f(x, s(y)) = f(s(x), y) => yes
+fun f(nat, nat): nat // clause f(x, 0) = x // clause f(x, s(y)) = f(y, x) => 3
+fun f(L): nat // clause f(nil) = 0 // clause f(cons(x, y)) = f(y) => yes
+fun f(L): nat // clause f(nil) = 0 // clause f(cons(x, x)) = x => 3
+fun f(L): nat // clause f(cons(x, y)) = x => 2
+fun f(P): nat // clause f(pair(x, y)) = x => yes
+fun f(P): nat // clause f(pair(x, y)) = x // clause f(pair(x, y)) = x => 3
+fun f(P): nat // clause f(pair(x, nil)) = x => 2
+fun f(nat): L // clause f(x) = x => 2
+fun f(nat): nat // clause f(x) = if x = 0 then 0 else p(x) => yes
+fun f(nat): nat // clause f(x) = if x = 0 then 0 else nil => 2
+fun f(nat): nat // clause f(x) = if all y: nat. y = x then 0 else 1 => 2
+rel r(nat) // clause r(x) <-> all y: nat. y = x => 2
+rel r(nat) // clause r(x) <-> (x = 0 <-> le(x, 1)) => yes
+rel r(nat) // clause r(x) = x => 2
+rel r(nat) // clause r(0) <-> true // clause r(s(x)) <-> not r(x) => yes
+rel r(nat) // clause r(0) <-> true // clause r(s(x)) <-> r(s(x)) => 3";
+
+const OTHERS: &str = "\
+order w(x: nat) by p(x) => yes
+order w(x: nat, y: L, z: nat, v: nat) by len(y) => yes
+order w(a: nat, b: nat, c: nat, d: nat, e: nat) by a => 1
+order w() by 0 => 1
+order w(x: nat) by y => 1
+order w(x: L) by x => 1
+order w(x: nat, x: nat) by x => 1
+order w(w: nat) by w => 1
+order w(p: nat) by 0 => 1
+order w(refl: nat) by 0 => 1
+order w(x: M) by 0 => 1
+order below(x: nat) by x => 1
+order w(x: nat) x => 1
+order w(x) by x => 1
+axiom a: all x: nat, y: L. le(x, len(y)) => yes
+axiom a: x = x => 1
+axiom a: all a: nat. le(a, a) => 1
+axiom a: all p: nat. le(p, p) => 1
+axiom a: all refl: nat. le(refl, refl) => 1
+axiom a: all trans: nat. le(trans, trans) => 1
+axiom a: all q: nat. le(q, q) // fun q(nat): nat // clause q(x) = x => yes
+axiom a: all x: M. true => 1
+axiom a: all x: nat. all x: nat. le(x, x) => 1
+axiom a: (all x: nat. le(x, x)) and (all x: nat. le(x, x)) => yes
+axiom a: all x: nat. le(x, x) <-> true => yes
+axiom a: le(0, s) => 1
+axiom a: le(1000, 1000) => yes
+axiom a: le(1001, 1) => 1
+axiom a: ?1 = 0 => 1
+axiom a le(0, 0) => 1
+axiom a: => 1
+axiom refl: true => 1
+axiom trans: true => 1
+axiom p: true => 1
+axiom L: true => 1
+mono m: le up p 1 le => yes
+mono m: le down p 1 below => yes
+mono m: le up s 1 le => yes
+mono m: le up le 1 => yes
+mono m: below up le 1 => yes
+mono m: le up below 2 => yes
+mono m: le up cons 1 le => 1
+mono m: le up len 1 le => 1
+mono m: le down le 2 => 1
+mono m: le up le 3 => 1
+mono m: le up le 0 => 1
+mono m: p up le 1 => 1
+mono m: le up p 1 => 1
+mono m: le up le 1 le => 1
+mono m: le up nil 1 le => 1
+mono m: le up 0 1 le => 1
+mono m: le across le 1 => 1
+mono trans: le up le 1 => 1
+mono p: le up le 1 => 1";
+
+/// The lines of the text.
+fn count(text: &str) -> u64 {
+    text.lines().count() as u64
+}
+
+/// Each case of the table, behind the lines of the theory.
+fn walk<R: Abort>(rt: &R, alloc: Global, table: &str) -> Result<(), Fail> {
+    for line in table.split('\n') {
+        let (case, want) = cut(line, " => ");
+        let mut text = String::from_str(alloc, BASE)?;
+        put_lines(&mut text, case)?;
+        let line = wanted(want);
+        let expected = if line == 0 {
+            0
+        } else {
+            line.saturating_add(count(BASE))
+        };
+        let got = bad_theory_line(alloc, text.as_bytes())?;
+        assert!(rt; got == expected, "at {case}");
+    }
+    Ok(())
+}
+
+#[test]
+fn passes_blanks(rt: HostRuntime) -> Result<(), Fail> {
+    walk(&rt, rt.alloc(), BLANKS)
+}
+
+#[test]
+fn reads_sorts(rt: HostRuntime) -> Result<(), Fail> {
+    walk(&rt, rt.alloc(), SORTS)
+}
+
+#[test]
+fn reads_headings(rt: HostRuntime) -> Result<(), Fail> {
+    walk(&rt, rt.alloc(), HEADINGS)
+}
+
+#[test]
+fn reads_clauses(rt: HostRuntime) -> Result<(), Fail> {
+    walk(&rt, rt.alloc(), CLAUSES)
+}
+
+#[test]
+fn reads_orders_axioms_monotonicities(rt: HostRuntime) -> Result<(), Fail> {
+    walk(&rt, rt.alloc(), OTHERS)
+}
+
+/// Whole texts by their bytes, and the line that is refused.
+#[test]
+fn reads_bytes(rt: HostRuntime) -> Result<(), Fail> {
+    let alloc = rt.alloc();
+    for (bytes, line) in [
+        (b"theory a\n".as_slice(), 0),
+        (b"\n# first\n  theory a # x\n\n".as_slice(), 0),
+        (b"".as_slice(), 1),
+        (b"\n".as_slice(), 2),
+        (b"theory a".as_slice(), 1),
+        (b"theory a\n# x".as_slice(), 2),
+        (b"theory a\n ".as_slice(), 2),
+        (b"theory\n".as_slice(), 1),
+        (b"theory a b\n".as_slice(), 1),
+        (b"theory nat\n".as_slice(), 1),
+        (b"theory a\ntheory a\n".as_slice(), 2),
+        (b"sort L = n | c(nat, L)\n".as_slice(), 1),
+        (b"theory a\n\xff\n".as_slice(), 2),
+        (b"theory a\n# \xff\n".as_slice(), 2),
+        (
+            b"theory bad\nfun g(nat): nat\nclause g(0) = 0\nclause g(s(x)) = g(s(x))\n".as_slice(),
+            4,
+        ),
+        (
+            b"theory bad\nfun g(nat): nat\nclause g(0) = 0\n".as_slice(),
+            4,
+        ),
+    ] {
+        assert_eq!(rt; bad_theory_line(alloc, bytes)?, line);
+    }
+    Ok(())
+}
+
+/// `rel r(nat, .., nat)` with so many arguments, and its clause.
+fn wide(alloc: Global, args: u32) -> Result<String, Fail> {
+    let mut text = String::from_str(alloc, "theory wide\nrel r(nat")?;
+    for _ in 1..args {
+        text.push_str(", nat")?;
+    }
+    text.push_str(")\nclause r(x0")?;
+    for i in 1..args {
+        let name = format!(in alloc; ", x{i}")?;
+        text.push_str(name.as_str())?;
+    }
+    text.push_str(") <-> true\n")?;
+    Ok(text)
+}
+
+#[test]
+fn reads_up_to_64_arguments(rt: HostRuntime) -> Result<(), Fail> {
+    let alloc = rt.alloc();
+    assert_eq!(rt; bad_theory_line(alloc, wide(alloc, 64)?.as_bytes())?, 0);
+    assert_eq!(rt; bad_theory_line(alloc, wide(alloc, 65)?.as_bytes())?, 2);
+    Ok(())
+}
+
+#[test]
+fn counts_many_lines(rt: HostRuntime) -> Result<(), Fail> {
+    let alloc = rt.alloc();
+    let mut bytes = Vec::new(alloc);
+    for _ in 0..4_194_304u32 {
+        bytes.push(b'\n')?;
+    }
+    assert_eq!(rt; bad_theory_line(alloc, bytes.as_slice())?, 4_194_305);
+    Ok(())
+}
