@@ -9,6 +9,25 @@ inputs = {
     ] * 20_000,
     "terms": ["term plus(dbl(plus(a, b)), plus(dbl(a), plus(s(b), 2)))"] * 50_000,
 }
+
+
+def theory(size, line, front):
+    lines = ["theory t"] + front
+    left = size - sum(len(l) + 1 for l in lines)
+    number = 0
+    while left >= len(line(number)) + 1:
+        left -= len(line(number)) + 1
+        lines.append(line(number))
+        number += 1
+    return lines
+
+
+order = ["rel le(nat, nat)", "clause le(x, 0) <-> x = 0", "clause le(x, s(y)) <-> x = s(y) or le(x, y)"]
+for name, size in [("whole", 4_194_304), ("half", 2_097_152), ("quarter", 1_048_576)]:
+    inputs[f"axioms-{name}"] = theory(size, lambda n: f"axiom a{n:06}: all x: nat. le(x, s(x)) or x = 0", order)
+    inputs[f"relations-{name}"] = theory(size, lambda n: f"rel r{n:06}(nat)\nclause r{n:06}(x) <-> x = 0", [])
+inputs["line"] = ["theory t", "axiom a: " + "(" * 1_000_000 + "true" + ")" * 1_000_000]
+
 for name, lines in inputs.items():
     with open(f"{folder}/{name}", "w") as file:
         file.write("\n".join(lines) + "\n")
