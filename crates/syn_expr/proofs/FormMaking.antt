@@ -14,6 +14,7 @@ use Rattle.syn_form.specs.declared.syntax.Quantifier.{Quantifier}
 use Rattle.syn_form.specs.declared.syntax.Quantifier.TheVariants as quantifier
 use Rattle.syn_form.specs.declared.syntax.BinderSyntax.{BinderSyntax}
 use Rattle.syn_form.specs.declared.syntax.FormSyntax.{FormSyntax}
+use Rattle.syn_form.specs.declared.trees.Binder.{Binder}
 use Rattle.syn_form.specs.declared.trees.QForm.TheVariants as form
 use Rattle.syn_form.specs.Elaboration.{Reading, atom_tree, binder_sort, bound, elaborate_form, elaborate_term, in_turn, is_free, mapped, nested, numbered_var, quantifier_tree, sorted_atom, symbol_named}
 use Rattle.syn_form.specs.Lists.{all_there}
@@ -22,7 +23,7 @@ use Rattle.syn_form.specs.Quantified.{bare_qform, bare_qform_step}
 use Rattle.syn_form.specs.Scopes.{TextScope, with_name}
 use Rattle.syn_form.specs.Sorts.{makes_atom}
 use Rattle.syn_form.specs.Trees.{QFormTree}
-use Rattle.syn_expr.specs.inner.Elaborating.{bare_reading, binder_var}
+use Rattle.syn_expr.specs.inner.Elaborating.{bare_reading, binder_var, numbered_binder}
 use Rattle.syn_expr.proofs.Options.{one_missing}
 use Rattle.syn_form.proofs.QForms.{qfold-All, qfold-Atom, qfold-Exists}
 use Rattle.syn_form.proofs.Sorting.{atom_decided, makes_atom_bare}
@@ -143,19 +144,40 @@ pub bare_quantifier : (q : Quantifier) (x : List ℕ) (v : Var) (f : QFormTree) 
 bare_quantifier quantifier.All x v f = qfold-All bare_qform_step (record { var = v; name = x }) f
 bare_quantifier quantifier.Exists x v f = qfold-Exists bare_qform_step (record { var = v; name = x }) f
 
-module _ (scope : TextScope) (q : Quantifier) (bs : List BinderSyntax) (x : BinderSyntax) (inside : Reading QFormTree) (n : ℕ) (v : Option Var) (some : 1 ≤ length bs) (at : x ≡ get_or bs 0 x) (found : v ≡ binder_var scope n x) where
+-- what a binder with its number and the next one says of its variable
+module _ (b : BinderSyntax) (n : ℕ) where
+  abbrev with_number : Var → Binder × ℕ
+  with_number v = (record { var = v; name = b.name }, n + 1)
+
+  without_var : (v : Option Var) → option_map with_number v ≡ None → v ≡ None
+  without_var None e = refl
+  without_var (Some v) e = absurd (cc)
+
+  by_var : (v : Option Var) (binder : Binder) (after : ℕ) → option_map with_number v ≡ Some (binder, after) → (v ≡ Some binder.var) × (binder.name ≡ b.name) × (after ≡ n + 1)
+  by_var None binder after e = absurd (cc)
+  by_var (Some v) binder after e =
+      let h : with_number v ≡ (binder, after) = cc in
+      let made : record { var = v; name = b.name } ≡ binder = ap (λ (z : Binder × ℕ). z.0) h in
+      (ap (λ (z : Binder). Some z.var) made, ap (λ (z : Binder). z.name) (sym made), ap (λ (z : Binder × ℕ). z.1) (sym h))
+
+module _ (scope : TextScope) (b : BinderSyntax) (n : ℕ) (o : Option (Binder × ℕ)) where
+  pub not_numbered : o ≡ numbered_binder scope n b → o ≡ None → binder_var scope n b ≡ None
+  not_numbered made none = without_var b n (binder_var scope n b) (sym made ∙ none)
+
+  pub is_numbered : (binder : Binder) (after : ℕ) → o ≡ numbered_binder scope n b → o ≡ Some (binder, after) → (binder_var scope n b ≡ Some binder.var) × (binder.name ≡ b.name) × (after ≡ n + 1)
+  is_numbered binder after made is = by_var b n (binder_var scope n b) binder after (sym made ∙ is)
+
+module _ (scope : TextScope) (q : Quantifier) (bs : List BinderSyntax) (x : BinderSyntax) (inside : Reading QFormTree) (n : ℕ) (some : 1 ≤ length bs) (at : x ≡ get_or bs 0 x) where
   -- where the first binder may not be bound, there is no formula
-  pub not_bound : v ≡ None → None ≡ nested q bs inside scope n
-  not_bound none =
-      let e : binder_var scope n x ≡ None = sym found ∙ none in
+  pub not_bound : binder_var scope n x ≡ None → None ≡ nested q bs inside scope n
+  not_bound e =
       let rest = nested q (take (length bs - 1) (drop 1 bs)) inside in
       sym (first_bound q bs x inside scope n some at ∙ (bound_is q x rest scope n ∙ ap (option_and_then (λ v. mapped (quantifier_tree q x.name v) rest (with_name scope x.name v) (n + 1))) e))
 
-  module _ (var : Var) (name : List ℕ) (place : TextScope) (after : ℕ) (o : Option (QFormTree × ℕ)) (is : v ≡ Some var) (named : name ≡ x.name) (inner : place ≡ with_name scope name var) (next : after ≡ n + 1) (read : option_map bare_reading o ≡ nested q (take (length bs - 1) (drop 1 bs)) inside place after) where
+  module _ (var : Var) (name : List ℕ) (place : TextScope) (after : ℕ) (o : Option (QFormTree × ℕ)) (e : binder_var scope n x ≡ Some var) (named : name ≡ x.name) (inner : place ≡ with_name scope name var) (next : after ≡ n + 1) (read : option_map bare_reading o ≡ nested q (take (length bs - 1) (drop 1 bs)) inside place after) where
     -- what is read inside is put under the quantifier
     pub bound_whole : nested q bs inside scope n ≡ option_map (under q name var) (option_map bare_reading o)
     bound_whole =
-        let e : binder_var scope n x ≡ Some var = sym found ∙ is in
         let rest = nested q (take (length bs - 1) (drop 1 bs)) inside in
         first_bound q bs x inside scope n some at
         ∙ (bound_is q x rest scope n

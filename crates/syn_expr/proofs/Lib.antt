@@ -2,6 +2,7 @@ pub mod Pieces
 pub mod TermTexts
 pub mod FormTexts
 pub mod QFormTexts
+pub mod QFormSizes
 pub mod Finding
 pub mod Growth
 pub mod TermMaking

@@ -4,7 +4,7 @@ ghost use Rattle.std.specs.Prelude.{◌≡◌, ◌+◌, ◌*◌, All, map, sum, 
 ghost use Rattle.std.specs.Option.{option_map};
 ghost use Rattle.syn_term.specs.Bank.{Extends};
 ghost use Rattle.syn_form.specs.Elaboration as elaboration;
-ghost use Rattle.syn_form.specs.Elaboration.{and_then, in_turn, mapped, nested, two_ways};
+ghost use Rattle.syn_form.specs.Elaboration.{and_then, in_turn, mapped, nested, quantified_reading, two_ways};
 ghost use Rattle.syn_form.specs.declared.trees.QForm.TheViews as view;
 ghost use Rattle.syn_expr.specs.Belonging.{QFormBelongs};
 ghost use Rattle.syn_expr.specs.inner.Elaborating.{bare_reading, bare_readings};
@@ -13,15 +13,14 @@ ghost use Rattle.syn_expr.specs.inner.Places.{spoken_at};
 ghost use Rattle.syn_expr.specs.inner.Spending.{Spends};
 
 use crate::form_parts::{
-    both, bound, conjunction, disjunction, negated, steady_atom, steady_equality,
+    bound, conjunction, disjunction, implied, negated, numbered_binder, steady_atom,
+    steady_equality, steady_false, steady_true, with_back,
 };
-use crate::lookups::binder_var;
 use crate::names::{Inside, within};
-use crate::pairs::both_shared;
-use sqlite_items::Items;
+use sqlite_items::{Boxed, Items};
 use std::alloc::Global;
-use syn_form::{Binder, BinderSyntax, FormSyntax, QForm, Quantifier};
-use syn_term::{Bank, NoMemory, Text};
+use syn_form::{BinderSyntax, FormSyntax, QForm, Quantifier};
+use syn_term::{Bank, NoMemory};
 
 /// The formula that the syntax tree stands for, and the number of the next binder; None where a name
 /// isn't there or may not be bound, or sorts don't fit. The binders are numbered from `next` on. The
@@ -41,30 +40,17 @@ pub(crate) fn elaborate_form(
     ensures belongs { IfOk result (λ o. IfSome o (λ r. QFormBelongs bank.new r.0)) }
 {
     match syntax {
-        FormSyntax::True => Ok(Some((QForm::True, next))),
-        FormSyntax::False => Ok(Some((QForm::False, next))),
-        FormSyntax::Atom(name, args) => {
-            steady_atom(alloc, bank, place, next, name, args.as_slice())
-        }
-        FormSyntax::Equal(s, t) => steady_equality(alloc, bank, place, next, s.get(), t.get()),
-        FormSyntax::Not(a) => negation(alloc, bank, place, next, a.get()),
-        FormSyntax::And(all) => members_and(alloc, bank, place, next, all.as_slice()),
-        FormSyntax::Or(all) => members_or(alloc, bank, place, next, all.as_slice()),
-        FormSyntax::Implies(a, b) => implication(alloc, bank, place, next, a.get(), b.get()),
-        FormSyntax::BothWays(a, b) => both_ways(alloc, bank, place, next, a.get(), b.get()),
+        FormSyntax::True => steady_true(next),
+        FormSyntax::False => steady_false(next),
+        FormSyntax::Atom(name, args) => steady_atom(alloc, bank, place, next, name, args),
+        FormSyntax::Equal(s, t) => steady_equality(alloc, bank, place, next, s, t),
+        FormSyntax::Not(a) => negation(alloc, bank, place, next, a),
+        FormSyntax::And(all) => members_and(alloc, bank, place, next, all),
+        FormSyntax::Or(all) => members_or(alloc, bank, place, next, all),
+        FormSyntax::Implies(a, b) => implication(alloc, bank, place, next, a, b),
+        FormSyntax::BothWays(a, b) => both_ways(alloc, bank, place, next, a, b),
         FormSyntax::Quantified(quantifier, binders, a) => {
-            if binders.is_empty() {
-                return Ok(None);
-            }
-            quantified(
-                alloc,
-                bank,
-                place,
-                next,
-                *quantifier,
-                binders.as_slice(),
-                a.get(),
-            )
+            under_quantifier(alloc, bank, place, next, *quantifier, binders, a)
         }
     }
 }
@@ -77,14 +63,14 @@ fn negation(
     bank: &mut Bank,
     place: &Inside,
     next: u32,
-    a: &FormSyntax,
+    a: &Boxed<FormSyntax>,
 ) -> Result<Option<(QForm, u32)>, NoMemory>
     ensures tree { IfOk result (λ o. option_map bare_reading o ≡ mapped view.Not (elaboration.elaborate_form a.now) (spoken_at place.now) next) }
     ensures made { Spends bank.old bank.new (limits.form_cost a.now) }
     ensures extends { Extends bank.old bank.new }
     ensures belongs { IfOk result (λ o. IfSome o (λ r. QFormBelongs bank.new r.0)) }
 {
-    match elaborate_form(alloc, bank, place, next, a) {
+    match elaborate_form(alloc, bank, place, next, a.get()) {
         Ok(read) => negated(alloc, read),
         Err(error) => Err(error),
     }
@@ -98,14 +84,14 @@ fn members_and(
     bank: &mut Bank,
     place: &Inside,
     next: u32,
-    all: &[FormSyntax],
+    all: &Items<FormSyntax>,
 ) -> Result<Option<(QForm, u32)>, NoMemory>
     ensures tree { IfOk result (λ o. option_map bare_reading o ≡ mapped view.And (in_turn (map elaboration.elaborate_form all.now)) (spoken_at place.now) next) }
     ensures made { Spends bank.old bank.new (sum (map limits.form_cost all.now)) }
     ensures extends { Extends bank.old bank.new }
     ensures belongs { IfOk result (λ o. IfSome o (λ r. QFormBelongs bank.new r.0)) }
 {
-    match elaborate_forms(alloc, bank, place, next, all) {
+    match elaborate_forms(alloc, bank, place, next, all.as_slice()) {
         Ok(read) => conjunction(alloc, read),
         Err(error) => Err(error),
     }
@@ -119,14 +105,14 @@ fn members_or(
     bank: &mut Bank,
     place: &Inside,
     next: u32,
-    all: &[FormSyntax],
+    all: &Items<FormSyntax>,
 ) -> Result<Option<(QForm, u32)>, NoMemory>
     ensures tree { IfOk result (λ o. option_map bare_reading o ≡ mapped view.Or (in_turn (map elaboration.elaborate_form all.now)) (spoken_at place.now) next) }
     ensures made { Spends bank.old bank.new (sum (map limits.form_cost all.now)) }
     ensures extends { Extends bank.old bank.new }
     ensures belongs { IfOk result (λ o. IfSome o (λ r. QFormBelongs bank.new r.0)) }
 {
-    match elaborate_forms(alloc, bank, place, next, all) {
+    match elaborate_forms(alloc, bank, place, next, all.as_slice()) {
         Ok(read) => disjunction(alloc, read),
         Err(error) => Err(error),
     }
@@ -150,12 +136,13 @@ fn elaborate_forms(
     let mut parts = Items::new(alloc);
     let mut after = next;
     for syntax in all {
-        match elaborate_form(alloc, bank, place, after, syntax)? {
-            None => return Ok(None),
-            Some((part, last)) => {
-                parts.push(part)?;
-                after = last;
-            }
+        match elaborate_form(alloc, bank, place, after, syntax) {
+            Ok(Some((part, last))) => match parts.push(part) {
+                Ok(()) => after = last,
+                Err(_) => return Err(NoMemory),
+            },
+            Ok(None) => return Ok(None),
+            Err(error) => return Err(error),
         }
     }
     Ok(Some((parts, after)))
@@ -169,26 +156,19 @@ fn implication(
     bank: &mut Bank,
     place: &Inside,
     next: u32,
-    a: &FormSyntax,
-    b: &FormSyntax,
+    a: &Boxed<FormSyntax>,
+    b: &Boxed<FormSyntax>,
 ) -> Result<Option<(QForm, u32)>, NoMemory>
     ensures tree { IfOk result (λ o. option_map bare_reading o ≡ and_then view.Implies (elaboration.elaborate_form a.now) (elaboration.elaborate_form b.now) (spoken_at place.now) next) }
     ensures made { Spends bank.old bank.new (limits.form_cost a.now + limits.form_cost b.now) }
     ensures extends { Extends bank.old bank.new }
     ensures belongs { IfOk result (λ o. IfSome o (λ r. QFormBelongs bank.new r.0)) }
 {
-    let Some((left, after)) = elaborate_form(alloc, bank, place, next, a)? else {
+    let Some((left, after)) = elaborate_form(alloc, bank, place, next, a.get())? else {
         return Ok(None);
     };
-    match elaborate_form(alloc, bank, place, after, b) {
-        Ok(Some((right, last))) => match both_shared(alloc, left, right) {
-            Ok((left, right)) => Ok(Some((QForm::Implies(left, right), last))),
-            Err(error) => Err(error),
-        },
-        Ok(None) => {
-            drop(left);
-            Ok(None)
-        }
+    match elaborate_form(alloc, bank, place, after, b.get()) {
+        Ok(read) => implied(alloc, left, read),
         Err(error) => {
             drop(left);
             Err(error)
@@ -204,8 +184,8 @@ fn both_ways(
     bank: &mut Bank,
     place: &Inside,
     next: u32,
-    a: &FormSyntax,
-    b: &FormSyntax,
+    a: &Boxed<FormSyntax>,
+    b: &Boxed<FormSyntax>,
 ) -> Result<Option<(QForm, u32)>, NoMemory>
     ensures tree { IfOk result (λ o. option_map bare_reading o ≡ two_ways (elaboration.elaborate_form a.now) (elaboration.elaborate_form b.now) (spoken_at place.now) next) }
     ensures made { Spends bank.old bank.new (2 * (limits.form_cost a.now + limits.form_cost b.now)) }
@@ -219,16 +199,43 @@ fn both_ways(
         return Ok(None);
     };
     match implication(alloc, bank, place, after, b, a) {
-        Ok(Some((back, last))) => Ok(Some((both(alloc, there, back)?, last))),
-        Ok(None) => {
-            drop(there);
-            Ok(None)
-        }
+        Ok(read) => with_back(alloc, there, read),
         Err(error) => {
             drop(there);
             Err(error)
         }
     }
+}
+
+/// The formula under a quantifier with its binders; None where there are none.
+#[cycle(forms)]
+#[tactic(auto, using(crate::proofs::Owning::owning, crate::proofs::Spending::spending))]
+fn under_quantifier(
+    alloc: Global,
+    bank: &mut Bank,
+    place: &Inside,
+    next: u32,
+    quantifier: Quantifier,
+    binders: &Items<BinderSyntax>,
+    a: &Boxed<FormSyntax>,
+) -> Result<Option<(QForm, u32)>, NoMemory>
+    ensures tree { IfOk result (λ o. option_map bare_reading o ≡ quantified_reading quantifier binders.now (elaboration.elaborate_form a.now) (spoken_at place.now) next) }
+    ensures made { Spends bank.old bank.new (limits.form_cost a.now) }
+    ensures extends { Extends bank.old bank.new }
+    ensures belongs { IfOk result (λ o. IfSome o (λ r. QFormBelongs bank.new r.0)) }
+{
+    if binders.is_empty() {
+        return Ok(None);
+    }
+    quantified(
+        alloc,
+        bank,
+        place,
+        next,
+        quantifier,
+        binders.as_slice(),
+        a.get(),
+    )
 }
 
 /// The formula under quantifiers, one for each binder, the first the outermost.
@@ -251,21 +258,19 @@ fn quantified(
     match binders {
         [] => elaborate_form(alloc, bank, place, next, a),
         [binder, rest @ ..] => {
-            let Some(var) = binder_var(place, next, binder) else {
-                return Ok(None);
-            };
-            let Some(after) = next.checked_add(1) else {
-                return Err(NoMemory);
-            };
-            let name = Text::from_str(alloc, binder.name.as_str())?;
-            let binder = Binder { var, name };
-            let place = within(&*place, &binder);
-            match quantified(alloc, bank, &place, after, quantifier, rest, a) {
-                Ok(read) => bound(alloc, quantifier, binder, read),
-                Err(error) => {
-                    drop(binder);
-                    Err(error)
+            match numbered_binder(alloc, place, next, binder) {
+                Ok(Some((binder, after))) => {
+                    let place = within(&*place, &binder);
+                    match quantified(alloc, bank, &place, after, quantifier, rest, a) {
+                        Ok(read) => bound(alloc, quantifier, binder, read),
+                        Err(error) => {
+                            drop(binder);
+                            Err(error)
+                        }
+                    }
                 }
+                Ok(None) => Ok(None),
+                Err(error) => Err(error),
             }
         }
     }

@@ -15,9 +15,10 @@ use crate::names::{Inside, look, outside, symbol_name};
 use crate::print_terms::{put_args, put_term};
 use crate::scope::Scope;
 use crate::text::{put, separator};
+use sqlite_items::Items;
 use std::alloc::Global;
 use syn_form::Form;
-use syn_term::{NoMemory, SymId, Term};
+use syn_term::{NoMemory, Shared, SymId, Term};
 
 pub(crate) const TRUE: &str = "true";
 
@@ -63,7 +64,7 @@ pub(crate) fn put_form(out: &mut String, place: &Inside, f: &Form) -> Result<(),
     match f {
         Form::True => put(out, TRUE),
         Form::False => put(out, FALSE),
-        Form::Atom(r, args) => put_atom(out, place, *r, args.get().as_slice()),
+        Form::Atom(r, args) => put_atom(out, place, *r, args),
         Form::Equal(s, t) => put_equality(out, place, s, t),
         Form::Not(a) => put_negation(out, place, a.get()),
         Form::And(all) => put_chain(out, place, AND, all.get().as_slice()),
@@ -123,12 +124,12 @@ pub(crate) fn put_atom(
     out: &mut String,
     place: &Inside,
     r: SymId,
-    args: &[Term],
+    args: &Shared<Items<Term>>,
 ) -> Result<(), NoMemory>
     ensures { OnOk result (string_bytes out.new ≡ string_bytes out.old ++ atom_text (spoken_at place.now) (symbol_at place.now.syms.now r) args.now) }
 {
     put(out, symbol_name(place.syms, r))?;
-    put_args(out, place, args)
+    put_args(out, place, args.get().as_slice())
 }
 
 /// Puts an equality, its sides in order.

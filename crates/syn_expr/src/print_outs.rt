@@ -1,6 +1,6 @@
 // The printer of outputs: a term, or a choice by a test.
-ghost use Rattle.std.specs.Prelude.{◌≡◌, ◌++◌, string_bytes, IfOk, OnOk};
-ghost use Rattle.syn_form.specs.Printing.{printed_out};
+ghost use Rattle.std.specs.Prelude.{◌≡◌, ◌++◌, codes, string_bytes, IfOk, OnOk};
+ghost use Rattle.syn_form.specs.Printing.{printed_form, printed_out};
 ghost use Rattle.syn_expr.specs.Readable.{IsReadableOut};
 ghost use Rattle.syn_form.specs.Texts.{IsOutOf};
 ghost use Rattle.syn_form.specs.Trees.{bare_out};
@@ -15,7 +15,7 @@ use crate::print_terms::put_term;
 use crate::scope::Scope;
 use crate::text::put;
 use std::alloc::Global;
-use syn_form::Out;
+use syn_form::{Form, Out};
 use syn_term::NoMemory;
 
 /// The one text of the output. A plain output within a limit reads back where its variables are told
@@ -38,6 +38,15 @@ fn out_text(alloc: Global, scope: &Scope, o: &Out) -> Result<String, NoMemory>
     Ok(out)
 }
 
+/// Puts the test of a choice, with the words around it.
+fn put_test(out: &mut String, place: &Inside, f: &Form) -> Result<(), NoMemory>
+    ensures { OnOk result (string_bytes out.new ≡ string_bytes out.old ++ (codes "if " ++ printed_form (spoken_at place.now) f.now ++ codes " then ")) }
+{
+    put(out, "if ")?;
+    put_form(out, place, f)?;
+    put(out, " then ")
+}
+
 /// Puts the text of the output after what stands already. The one error is want of memory.
 fn put_out(out: &mut String, place: &Inside, o: &Out) -> Result<(), NoMemory>
     ensures { OnOk result (string_bytes out.new ≡ string_bytes out.old ++ printed_out (spoken_at place.now) o.now) }
@@ -45,9 +54,7 @@ fn put_out(out: &mut String, place: &Inside, o: &Out) -> Result<(), NoMemory>
     match o {
         Out::Give(t) => put_term(out, place, t),
         Out::If(f, u, v) => {
-            put(out, "if ")?;
-            put_form(out, place, f.get())?;
-            put(out, " then ")?;
+            put_test(out, place, f.get())?;
             put_out(out, place, u.get())?;
             put(out, " else ")?;
             put_out(out, place, v.get())

@@ -14,9 +14,10 @@ use crate::names::{Inside, look, outside, sort_name, within};
 use crate::print_forms::{AND, CLOSE, FALSE, IMPLIES, NOT, OPEN, OR, TRUE, put_atom, put_equality};
 use crate::scope::Scope;
 use crate::text::{put, separator};
+use sqlite_items::Items;
 use std::alloc::Global;
 use syn_form::{Binder, QForm};
-use syn_term::NoMemory;
+use syn_term::{NoMemory, Shared};
 
 /// The one text of the formula. A plain formula within a limit reads back where it has no free
 /// variables and the scope no names, and so does each that the scope can read. The one error is want
@@ -48,36 +49,52 @@ fn put_qform(out: &mut String, place: &Inside, f: &QForm) -> Result<(), NoMemory
     match f {
         QForm::True => put(out, TRUE),
         QForm::False => put(out, FALSE),
-        QForm::Atom(r, args) => put_atom(out, place, *r, args.get().as_slice()),
+        QForm::Atom(r, args) => put_atom(out, place, *r, args),
         QForm::Equal(s, t) => put_equality(out, place, s, t),
-        QForm::Not(a) => put_negation(out, place, a.get()),
-        QForm::And(all) => put_qform_chain(out, place, AND, all.get().as_slice()),
-        QForm::Or(all) => put_qform_chain(out, place, OR, all.get().as_slice()),
-        QForm::Implies(a, b) => {
-            put_inner_qform(out, place, a.get())?;
-            put_implied(out, place, b.get())
-        }
-        QForm::All(b, a) => put_quantified(out, place, "all ", b, a.get()),
-        QForm::Exists(b, a) => put_quantified(out, place, "some ", b, a.get()),
+        QForm::Not(a) => put_negation(out, place, a),
+        QForm::And(all) => put_members(out, place, AND, all),
+        QForm::Or(all) => put_members(out, place, OR, all),
+        QForm::Implies(a, b) => put_implication(out, place, a, b),
+        QForm::All(b, a) => put_quantified(out, place, "all ", b, a),
+        QForm::Exists(b, a) => put_quantified(out, place, "some ", b, a),
     }
 }
 
 /// Puts the negation of the formula.
 #[cycle(qforms)]
-fn put_negation(out: &mut String, place: &Inside, a: &QForm) -> Result<(), NoMemory>
+fn put_negation(out: &mut String, place: &Inside, a: &Shared<QForm>) -> Result<(), NoMemory>
     ensures { OnOk result (string_bytes out.new ≡ string_bytes out.old ++ (codes "not " ++ inner (printing_of_qform a.now (spoken_at place.now)))) }
 {
     put(out, NOT)?;
-    put_inner_qform(out, place, a)
+    put_inner_qform(out, place, a.get())
 }
 
-/// Puts the arrow of an implication, and its right side.
+/// Puts the implication from the first to the second.
 #[cycle(qforms)]
-fn put_implied(out: &mut String, place: &Inside, b: &QForm) -> Result<(), NoMemory>
-    ensures { OnOk result (string_bytes out.new ≡ string_bytes out.old ++ (codes " -> " ++ inner (printing_of_qform b.now (spoken_at place.now)))) }
+fn put_implication(
+    out: &mut String,
+    place: &Inside,
+    a: &Shared<QForm>,
+    b: &Shared<QForm>,
+) -> Result<(), NoMemory>
+    ensures { OnOk result (string_bytes out.new ≡ string_bytes out.old ++ (inner (printing_of_qform a.now (spoken_at place.now)) ++ codes " -> " ++ inner (printing_of_qform b.now (spoken_at place.now)))) }
 {
+    put_inner_qform(out, place, a.get())?;
     put(out, IMPLIES)?;
-    put_inner_qform(out, place, b)
+    put_inner_qform(out, place, b.get())
+}
+
+/// Puts the members of a chain, with the text between.
+#[cycle(qforms)]
+fn put_members(
+    out: &mut String,
+    place: &Inside,
+    between: &str,
+    all: &Shared<Items<QForm>>,
+) -> Result<(), NoMemory>
+    ensures { OnOk result (string_bytes out.new ≡ string_bytes out.old ++ joined between.now (map (λ f. inner (printing_of_qform f (spoken_at place.now))) all.now)) }
+{
+    put_qform_chain(out, place, between, all.get().as_slice())
 }
 
 /// Puts the formula as it stands inside another, in brackets where it has to.
@@ -123,12 +140,12 @@ fn put_quantified(
     place: &Inside,
     word: &str,
     b: &Binder,
-    a: &QForm,
+    a: &Shared<QForm>,
 ) -> Result<(), NoMemory>
     ensures { OnOk result (string_bytes out.new ≡ string_bytes out.old ++ (binder_text (spoken_at place.now) word.now b.now ++ inner (printing_of_qform a.now (in_scope_of (spoken_at place.now) b.now)))) }
 {
     put_binder(out, place, word, b)?;
-    put_inner_qform(out, &within(&*place, b), a)
+    put_inner_qform(out, &within(&*place, b), a.get())
 }
 
 /// Puts a quantifier up to its formula: the word, the name, the sort and a stop.

@@ -1,10 +1,11 @@
 -- For private contracts: steps of the making of trees from syntax trees.
-use Rattle.std.specs.Prelude.{ℕ, List, [], ◌∷◌, Option, None, codes, map, if◌then◌else◌}
+use Rattle.std.specs.Prelude.{ℕ, ◌+◌, List, [], ◌∷◌, Option, None, codes, map, if◌then◌else◌}
 use Rattle.std.specs.Option.{option_and_then, option_map}
 use Rattle.syn_term.specs.Symbols.{SymbolTable}
 use Rattle.syn_term.specs.Terms.{TermTree}
 use Rattle.syn_term.specs.declared.sorts.Var.{Var}
 use Rattle.syn_form.specs.declared.syntax.BinderSyntax.{BinderSyntax}
+use Rattle.syn_form.specs.declared.trees.Binder.{Binder}
 use Rattle.syn_form.specs.Elaboration.{binder_sort, is_free, numbered_var, sorted_application, symbol_named}
 use Rattle.syn_form.specs.Quantified.{bare_qform}
 use Rattle.syn_form.specs.Scopes.{TextScope}
@@ -17,6 +18,10 @@ next_tree table t = option_and_then (sorted_application table (t ∷ [])) (symbo
 -- the variable of a binder, where its name may be bound and its sort is there
 abbrev pub binder_var : TextScope → ℕ → BinderSyntax → Option Var
 binder_var scope n b = if is_free scope b.name then option_map (numbered_var n) (binder_sort scope.table b.sort) else None
+
+-- the binder with its variable, and the number of the next one
+abbrev pub numbered_binder : TextScope → ℕ → BinderSyntax → Option (Binder × ℕ)
+numbered_binder scope n b = option_map (λ v. (record { var = v; name = b.name }, n + 1)) (binder_var scope n b)
 
 -- what was read, its places left out, and the number of the next binder
 abbrev pub bare_reading : QFormTree × ℕ → QFormTree × ℕ

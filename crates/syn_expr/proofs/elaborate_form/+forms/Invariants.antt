@@ -32,6 +32,9 @@ decreases-implication l = 4 * (weight l.a.now + weight l.b.now) + 1
 abbrev pub decreases-both_ways : goal.decreases-both_ways
 decreases-both_ways l = 4 * (weight l.a.now + weight l.b.now) + 2
 
+abbrev pub decreases-under_quantifier : goal.decreases-under_quantifier
+decreases-under_quantifier l = 4 * weight l.a.now + (length l.binders.now + 2)
+
 abbrev pub decreases-quantified : goal.decreases-quantified
 decreases-quantified l = 4 * weight l.a.now + (length l.binders.now + 1)
 

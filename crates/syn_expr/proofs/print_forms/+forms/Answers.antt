@@ -12,7 +12,7 @@ use Rattle.syn_expr.proofs.FormTexts.{inner_text, and_text, or_text, implies_tex
 use Rattle.syn_expr.proofs.print_forms.+forms.Goals as goal
 
 pub put_form-returns-in-And : goal.put_form-returns-in-And
-put_form-returns-in-And t c = IfOk-weaker c.put_chain.result _ _ (λ x h. whole_put _ _ _ _ (and_text (spoken_at c.args.place.now) c.args.f.now _ _ c.in-And.is (c.as_slice-in-And.ensures ∙ c.get-in-And.ensures)) h) c.put_chain.ensures
+put_form-returns-in-And t c = IfOk-weaker c.put_chain.result _ _ (λ x h. whole_put _ _ _ _ (and_text (spoken_at c.args.place.now) c.args.f.now _ _ c.in-And.is (c.as_slice.ensures ∙ c.get-in-And.ensures)) h) c.put_chain.ensures
 
 pub put_form-returns-in-Or : goal.put_form-returns-in-Or
 put_form-returns-in-Or t c = IfOk-weaker c.put_chain-in-Or.result _ _ (λ x h. whole_put _ _ _ _ (or_text (spoken_at c.args.place.now) c.args.f.now _ _ c.in-Or.is (c.as_slice-in-Or.ensures ∙ c.get-in-Or.ensures)) h) c.put_chain-in-Or.ensures
@@ -28,13 +28,13 @@ put_implication-returns t c = IfOk-weaker c.put_inner-2.result _ _ (λ x h. thre
 
 pub put_form-put_negation-requires : goal.put_form-put_negation-requires
 put_form-put_negation-requires t c =
-    let fewer = fewer_negated _ _ _ c.in-Not.is c.get-in-Not.ensures in
-    let less : 4 * form_nodes c.get-in-Not.result.now + 2 < t = omega arith in (less, tt)
+    let fewer = fewer_negated _ _ _ c.in-Not.is c.get.ensures in
+    let less : 4 * form_nodes c.get.result.now + 2 < t = omega arith in (less, tt)
 
 pub put_form-put_chain-requires : goal.put_form-put_chain-requires
 put_form-put_chain-requires t c =
-    let fewer = fewer_members conjunction _ _ _ c.in-And.is (c.as_slice-in-And.ensures ∙ c.get-in-And.ensures) in
-    let less : 4 * sum (map form_nodes c.as_slice-in-And.result.now) + 2 < t = omega arith in (less, tt)
+    let fewer = fewer_members conjunction _ _ _ c.in-And.is (c.as_slice.ensures ∙ c.get-in-And.ensures) in
+    let less : 4 * sum (map form_nodes c.as_slice.result.now) + 2 < t = omega arith in (less, tt)
 
 pub put_form-put_chain-requires-in-Or : goal.put_form-put_chain-requires-in-Or
 put_form-put_chain-requires-in-Or t c =
