@@ -202,6 +202,10 @@ order below
 primitive p
 use cases, down, dbl
 --
+spec plain
+program plain(a: nat): z: nat
+ensures z = dbl(a)
+--
 spec over
 program over(a: nat, b: nat): z: nat
 requires le(a, b)
@@ -237,6 +241,113 @@ fn prints_specifications(rt: HostRuntime) -> Result<(), Fail> {
         let printed = printed_spec(alloc, &theory, text)?;
         assert_eq!(rt; printed.as_str(), text);
     }
+    Ok(())
+}
+
+/// The text with tabs for blanks, a comment and a carriage return behind each line, and a blank line between
+/// any two.
+fn dressed(alloc: Global, text: &str) -> Result<String, Fail> {
+    let mut out = String::new(alloc);
+    for c in text.chars() {
+        match c {
+            ' ' => out.push_str(" \t")?,
+            '\n' => out.push_str("\t# (\r\n \r\n")?,
+            other => out.push(other)?,
+        }
+    }
+    Ok(out)
+}
+
+#[test]
+fn reads_dressed_theories(rt: HostRuntime) -> Result<(), Fail> {
+    let alloc = rt.alloc();
+    for (text, want) in [
+        (BASICS, BASICS_PRINTED),
+        (LISTS, LISTS_PRINTED),
+        (LOOP, LOOP_PRINTED),
+        (WIDE, WIDE_PRINTED),
+    ] {
+        let dressed = dressed(alloc, text)?;
+        let printed = print_theory(alloc, &theory_of(alloc, dressed.as_str())?)?;
+        assert_eq!(rt; printed.as_str(), want);
+    }
+    Ok(())
+}
+
+#[test]
+fn reads_dressed_specifications(rt: HostRuntime) -> Result<(), Fail> {
+    let alloc = rt.alloc();
+    let theory = theory_of(alloc, BASICS)?;
+    for text in SPECS.split("--\n") {
+        let dressed = dressed(alloc, text)?;
+        let printed = printed_spec(alloc, &theory, dressed.as_str())?;
+        assert_eq!(rt; printed.as_str(), text);
+    }
+    Ok(())
+}
+
+/// The specification that two lists of 40 unknown numbers are to be one, with these words before the equality and so many
+/// brackets closed behind it.
+fn fan(alloc: Global, binders: &str, closed: u32) -> Result<String, Fail> {
+    let mut out = String::from_str(alloc, "spec fan\nprogram g(a: nat): z: nat\nensures ")?;
+    out.push_str(binders)?;
+    for i in 1..41u32 {
+        out.push_str(format!(in alloc; "cons(x{i}, ")?.as_str())?;
+    }
+    out.push_str("nil")?;
+    for _ in 1..41u32 {
+        out.push(')')?;
+    }
+    out.push_str(" = ")?;
+    for i in 2..42u32 {
+        out.push_str(format!(in alloc; "cons(t(x{i}, x{i}), ")?.as_str())?;
+    }
+    out.push_str("nil")?;
+    for _ in 2..42u32 {
+        out.push(')')?;
+    }
+    for _ in 0..closed {
+        out.push(')')?;
+    }
+    out.push('\n')?;
+    Ok(out)
+}
+
+/// A list of binders is printed as binders one by one, each formula under another in brackets.
+#[test]
+fn prints_a_specification_of_many_binders(rt: HostRuntime) -> Result<(), Fail> {
+    let alloc = rt.alloc();
+    let theory = theory_of(alloc, WIDE)?;
+    let mut listed = String::from_str(alloc, "some x1: nat")?;
+    let mut single = String::from_str(alloc, "some x1: nat. ")?;
+    let mut nested = String::from_str(alloc, "some x1: nat. ")?;
+    for i in 2..42u32 {
+        listed.push_str(format!(in alloc; ", x{i}: nat")?.as_str())?;
+        single.push_str(format!(in alloc; "some x{i}: nat. ")?.as_str())?;
+        nested.push_str(format!(in alloc; "(some x{i}: nat. ")?.as_str())?;
+    }
+    listed.push_str(". ")?;
+    let want = fan(alloc, nested.as_str(), 40)?;
+    for (binders, closed) in [
+        (listed.as_str(), 0),
+        (single.as_str(), 0),
+        (nested.as_str(), 40),
+    ] {
+        let text = fan(alloc, binders, closed)?;
+        assert_eq!(rt;
+            printed_spec(alloc, &theory, text.as_str())?.as_str(),
+            want.as_str()
+        );
+    }
+    Ok(())
+}
+
+#[test]
+fn prints_a_specification_over_a_relation(rt: HostRuntime) -> Result<(), Fail> {
+    let alloc = rt.alloc();
+    let theory = theory_of(alloc, LOOP)?;
+    let text = "spec f\nprogram f(a: nat): z: nat\nensures r(z)\norder below\nprimitive r\n";
+    assert_eq!(rt; printed_spec(alloc, &theory, text)?.as_str(), text);
     Ok(())
 }
 

@@ -69,6 +69,7 @@ ensures z = a // order below below => 2
 ensures z = a // order below // order below => 3
 ensures z = a // primitive p, le, below => yes
 ensures z = a // primitive le => yes
+ensures z = a // primitive nothing => 2
 ensures z = a // primitive nil => 2
 ensures z = a // primitive s => 2
 ensures z = a // primitive refl => 2
@@ -78,6 +79,7 @@ ensures z = a // primitive p le => 2
 ensures z = a // primitive p, => 2
 ensures z = a // primitive => 2
 ensures z = a // use refl, p, le => yes
+ensures z = a // use nothing => 2
 ensures z = a // use below => 2
 ensures z = a // use trans => 2
 ensures z = a // use cons => 2

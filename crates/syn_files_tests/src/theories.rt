@@ -70,6 +70,14 @@ rel le(nat) => 1";
 
 const CLAUSES: &str = "\
 clause p(x) = x => 1
+fun f(nat): nat // clause f(base) = base => yes
+fun f(nat): nat // clause f(x) = x // clause f(x) = x => 3
+fun f(nat): nat // clause f(x) = x // clause f(0) = 0 => 3
+fun f(nat): nat // clause f(x) = g(x) // fun g(nat): nat // clause g(x) = x => 2
+fun f(nat): nat // clause f(x) = ?1 => 2
+fun f(nat): nat // clause f(x) = !refl.1 => 2
+fun f(nat): nat // clause f(0) = 0 // clause f(s(x)) = f(f(x)) => 3
+fun f(nat, nat): nat // clause f(x, 0) = x // clause f(x, s(y)) = f(f(x, y), y) => yes
 fun f(nat): nat // clause f(x) <-> true => 2
 fun f(nat): nat // clause g(x) = x => 2
 fun f(nat): nat // clause f(x, y) = x => 2
@@ -108,6 +116,8 @@ fun f(L): nat // clause f(cons(x, y)) = x => 2
 fun f(P): nat // clause f(pair(x, y)) = x => yes
 fun f(P): nat // clause f(pair(x, y)) = x // clause f(pair(x, y)) = x => 3
 fun f(P): nat // clause f(pair(x, nil)) = x => 2
+fun f(P): nat // clause f(pair(x, y)) = f(pair(x, y)) => 2
+fun f(P): nat // clause f(pair(x, y)) = len(y) => yes
 fun f(nat): L // clause f(x) = x => 2
 fun f(nat): nat // clause f(x) = if x = 0 then 0 else p(x) => yes
 fun f(nat): nat // clause f(x) = if x = 0 then 0 else nil => 2
@@ -115,6 +125,10 @@ fun f(nat): nat // clause f(x) = if all y: nat. y = x then 0 else 1 => 2
 rel r(nat) // clause r(x) <-> all y: nat. y = x => 2
 rel r(nat) // clause r(x) <-> (x = 0 <-> le(x, 1)) => yes
 rel r(nat) // clause r(x) = x => 2
+rel r(nat) // clause r(x) <-> below(x, 1) => yes
+rel r(nat) // clause r(x) <-> r(x) => 2
+rel r(L) // clause r(nil) <-> true // clause r(cons(x, y)) <-> x = 0 and r(y) => yes
+rel r(L) // clause r(nil) <-> true // clause r(cons(x, y)) <-> r(x) => 3
 rel r(nat) // clause r(0) <-> true // clause r(s(x)) <-> not r(x) => yes
 rel r(nat) // clause r(0) <-> true // clause r(s(x)) <-> r(s(x)) => 3";
 
@@ -140,6 +154,7 @@ axiom a: all p: nat. le(p, p) => 1
 axiom a: all refl: nat. le(refl, refl) => 1
 axiom a: all trans: nat. le(trans, trans) => 1
 axiom a: all q: nat. le(q, q) // fun q(nat): nat // clause q(x) = x => yes
+axiom a: all base: nat. le(base, base) => yes
 axiom a: all x: M. true => 1
 axiom a: all x: nat. all x: nat. le(x, x) => 1
 axiom a: (all x: nat. le(x, x)) and (all x: nat. le(x, x)) => yes
@@ -160,6 +175,18 @@ mono m: le up s 1 le => yes
 mono m: le up le 1 => yes
 mono m: below up le 1 => yes
 mono m: le up below 2 => yes
+rel r(nat) // clause r(x) <-> true // mono m: r up le 1 => 3
+rel r(nat, L) // clause r(x, y) <-> true // mono m: r up le 1 => 3
+rel r(L, L) // clause r(x, y) <-> true // mono m: r up le 1 => 3
+rel r(L, L) // clause r(x, y) <-> true // mono m: r up len 1 le => yes
+rel r(L, L) // clause r(x, y) <-> true // mono m: le up cons 1 r => yes
+rel r(L, L) // clause r(x, y) <-> true // mono m: r up cons 2 r => yes
+rel r(P, P) // clause r(x, y) <-> true // mono m: le up pair 1 r => yes
+mono m: le up le 1 // mono n: le up le 1 => 2
+mono m: le up le 1 // mono n: le down le 1 => 2
+mono m: len up le 1 => 1
+mono m: le up refl 1 => 1
+mono m: le up nothing 1 => 1
 mono m: le up cons 1 le => 1
 mono m: le up len 1 le => 1
 mono m: le down le 2 => 1
