@@ -29,3 +29,10 @@ pub mod SpecAsking
 pub mod BareExtending
 pub mod IndexLaws
 pub mod RowKeys
+pub mod EvaluationEquations
+pub mod DeeperCalls
+pub mod EvaluationRows
+pub mod OneOutcome
+pub mod BareEvaluation
+pub mod TruthEquations
+pub mod CorrectRows

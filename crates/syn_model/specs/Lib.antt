@@ -8,3 +8,8 @@ pub mod Heads
 pub mod Specifications
 pub mod BareParts
 pub mod inner
+pub mod Clausal
+pub mod Evaluation
+pub mod Calls
+pub mod Truth
+pub mod Correctness

@@ -16,3 +16,4 @@ pub mod TextLaws
 pub mod DefaultLaws
 pub mod DefaultTerms
 pub mod DefaultSorts
+pub mod SameValues

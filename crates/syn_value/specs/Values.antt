@@ -1,5 +1,5 @@
 -- In public contracts: values as trees, what they are made of, and which are of a sort.
-use Rattle.std.specs.Prelude.{ℕ, ◌+◌, ◌^◌, ◌-◌, ◌≤◌, Bool, IsTrue, true, false, ◌&&◌, List, [], ◌∷◌, Option, Some, None, All, length, sum}
+use Rattle.std.specs.Prelude.{ℕ, ◌+◌, ◌^◌, ◌-◌, ◌≤◌, Bool, IsTrue, true, false, ◌&&◌, List, [], ◌∷◌, Option, Some, None, All, length, nat_eq, sum}
 use Rattle.std.specs.List.{concat, list_all}
 use Rattle.syn_term.specs.declared.sorts.Sort.{Sort}
 use Rattle.syn_term.specs.declared.sorts.Shape.{Shape}
@@ -79,3 +79,19 @@ parts_step (ValueTree-F.Tuple parts) = length parts + sum parts
 -- how many list items and tuple parts the value has together, those inside others too: `[(1,2)]` has three
 abbrev pub parts_in : ValueTree → ℕ
 parts_in = fold-ValueTree ℕ parts_step
+
+-- each of the first decides on one of the second, and all say yes
+abbrev pub all_match : List (ValueTree → Bool) → List ValueTree → Bool
+all_match [] [] = true
+all_match (f ∷ fs) (v ∷ vs) = f v && all_match fs vs
+all_match _ _ = false
+
+abbrev pub same_layer : ValueTree-F (ValueTree → Bool) → ValueTree-F ValueTree → Bool
+same_layer (ValueTree-F.Num n) (ValueTree-F.Num m) = nat_eq n m
+same_layer (ValueTree-F.List fs) (ValueTree-F.List vs) = all_match fs vs
+same_layer (ValueTree-F.Tuple fs) (ValueTree-F.Tuple vs) = all_match fs vs
+same_layer _ _ = false
+
+-- whether two values are one
+abbrev pub same_value : ValueTree → ValueTree → Bool
+same_value = fold-ValueTree (ValueTree → Bool) (λ layer w. same_layer layer (out-ValueTree w))
