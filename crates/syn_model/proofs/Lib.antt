@@ -25,6 +25,7 @@ pub mod Hashes
 pub mod NamedSymbols
 pub mod Written
 pub mod SpecLaws
+pub mod ProgramLaws
 pub mod SpecAsking
 pub mod BareExtending
 pub mod IndexLaws

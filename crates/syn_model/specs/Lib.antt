@@ -6,6 +6,7 @@ pub mod BareTrees
 pub mod Declaring
 pub mod Heads
 pub mod Specifications
+pub mod Programs
 pub mod BareParts
 pub mod inner
 pub mod Clausal

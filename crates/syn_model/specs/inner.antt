@@ -3,6 +3,7 @@ pub mod Keeping
 pub mod Closing
 pub mod HeadTables
 pub mod HoldingSpecs
+pub mod HoldingPrograms
 pub mod Hashing
 pub mod Naming
 pub mod Indexing

@@ -178,7 +178,7 @@ fn is_plain_form_over(
 }
 
 /// Whether the output gives a term of this sort.
-fn gives(syms: &Symbols, body: &Out, value: Sort) -> bool
+pub(crate) fn gives(syms: &Symbols, body: &Out, value: Sort) -> bool
     ensures { IsTrue result ↔ (plain.given_sort syms.now body.now ≡ Some value) }
 {
     given_sort(syms, body) == Some(value)

@@ -21,6 +21,7 @@ mod monos;
 mod naming;
 mod orders;
 mod patterns;
+mod program;
 mod spec;
 mod spec_part;
 mod theory;
@@ -29,6 +30,7 @@ mod uses;
 
 pub use decl::Decl;
 pub use heads::{Head, Param, are_distinct_names, are_new_inputs};
+pub use program::{Program, ProgramHead};
 pub use spec::Spec;
 pub use spec_part::SpecPart;
 pub use theory::{DeclError, Theory};
