@@ -1,147 +1,94 @@
--- From how each part of a check ends to when the status comes.
-use Rattle.std.proofs.Common.{◌≡◌, ℕ, ◌≤◌, List, [], Option, None, Some, refl, sym, ◌∙◌, subst, arith, inl, inr}
-use Rattle.syn_outside.specs.Files.{File, Told}
-use Rattle.syn_outside.specs.Faults.{HasCause}
-use Rattle.syn_outside.specs.Texts.{Adds, AddsPrefix}
-use Rattle.syn_app.specs.Trees.{TheoryTree, SpecTree}
+-- From what each part of a command answers to how its stages end, and from these to when each status comes.
+use Rattle.std.proofs.Common.{◌≡◌, ℕ, ◌≤◌, List, Option, Result, map, refl, sym, subst, arith, inl, inr, MatchResult}
+use Rattle.std.proofs.lemmas.Result.{MatchResult-weaker}
+use Rattle.syn_outside.specs.Files.{File}
+use Rattle.syn_app.specs.Trees.{TheoryTree}
+use Rattle.syn_app.specs.ProgramText.{printed_program}
+use Rattle.syn_app.specs.declared.command.Command.{Command}
+use Rattle.syn_app.specs.declared.command.Command.TheVariants as command
 use Rattle.syn_app.specs.declared.flat.Entry.{Entry}
+use Rattle.syn_app.specs.declared.flat.FlatRow.{FlatRow}
 use Rattle.syn_app.specs.declared.spec_text.FlatSpec.{FlatSpec}
 use Rattle.syn_app.specs.declared.status.Status.{Status}
 use Rattle.syn_app.specs.declared.status.Status.TheVariants as status
 use Rattle.syn_app.specs.declared.status.Which.TheVariants as which
 use Rattle.syn_lex.specs.TextLines.{IsFirstBad}
-use Rattle.syn_app.specs.SpecText.{ExtendsSpec, HasInput, IsSpecText, WholeSpec}
-use Rattle.syn_app.specs.DerivationText.{ExtendsDerivation, WholeDerivation}
-use Rattle.syn_app.specs.Replay.{IsFirstToFail, IsUnfinished}
+use Rattle.syn_app.specs.SpecText.{ExtendsSpec, IsSpecText, WholeSpec}
+use Rattle.syn_app.specs.DerivationText.{IsDerivationText, entry_of}
+use Rattle.syn_app.specs.Stages.{behind, giving}
+use Rattle.syn_app.specs.Work.{IsBadFor, IsDerivationFor, derivation_stage, derivation_work, replay_stage, spec_stage, spec_work, theory_stage, work}
+use Rattle.syn_app.specs.Comes.{Passed, Stops}
 use Rattle.syn_app.specs.inner.Checks.{flat_names, flat_spec}
-use Rattle.syn_app.specs.Comes.{ComesFor, FileNames, GoodSpec, GoodTheory, IsLong, IsShort, OfTexts, ReadsSpec, Scene, Writing}
-use Rattle.syn_app.specs.inner.Judging.{DerivationEnds, DerivationFails, IsLoaded, IsSpecRead, LoadFails, OfEntries, Prints, SpecFails, TheoryEnds}
+use Rattle.syn_app.specs.inner.Readers.{IsFlatDerivation}
+use Rattle.syn_app.specs.inner.Judging.{DerivationFails, EntriesFail, IsLoaded, IsSpecRead, Prints, PrintsEntries}
+use Rattle.syn_app.proofs.Stops.{bad_settles, passes_next, rest_ends, stops_first, stops_next, text_passes, told_always}
 
--- what holds of two files, and of three
-told_two : (P Q : List ℕ → Type 0) (T : List ℕ → List ℕ → Type 0) (files : Option (List File)) (x y : List ℕ) → ((a b : List ℕ) → P a → Q b → T a b) → Told P files x → Told Q files y → Told (λ a. Told (T a) files y) files x
-told_two P Q T None x y f p q = tt
-told_two P Q T (Some fs) x y f p q = (p.0, p.1, (q.0, q.1, f p.0 q.0 p.2 q.2))
+-- what is judged of the rows is judged of the text
+derivation_read : (input bytes : List ℕ) (rows : List FlatRow) → IsFlatDerivation input bytes rows → IsDerivationText input bytes (map entry_of rows)
+derivation_read input bytes rows h = record { rows = rows; cut = h.cut; are_rows = h.are_rows; is = refl }
 
-told_three : (P Q R : List ℕ → Type 0) (T : List ℕ → List ℕ → List ℕ → Type 0) (files : Option (List File)) (x y z : List ℕ) → ((a b d : List ℕ) → P a → Q b → R d → T a b d) → Told P files x → Told Q files y → Told R files z → Told (λ a. Told (λ b. Told (T a b) files z) files y) files x
-told_three P Q R T None x y z f p q r = tt
-told_three P Q R T (Some fs) x y z f p q r = (p.0, p.1, (q.0, q.1, (r.0, r.1, f p.0 q.0 r.0 p.2 q.2 r.2)))
+entries_fail : (s : FlatSpec) (bytes : List ℕ) (entries : List Entry) → IsDerivationText s.input.now bytes entries → (e : Status) → EntriesFail s entries e → DerivationFails s bytes e
+entries_fail s bytes entries t (status.NotFollows k) h = (entries, (t, h))
+entries_fail s bytes entries t status.NotFinal h = (entries, (t, h))
+entries_fail s bytes entries t status.NoMemory h = tt
+entries_fail s bytes entries t _ h = absurd h
 
-told_with : (P Q : List ℕ → Type 0) (files : Option (List File)) (x : List ℕ) → ((a : List ℕ) → P a → Q a) → Told P files x → Told Q files x
-told_with P Q None x f p = tt
-told_with P Q (Some fs) x f p = (p.0, p.1, f p.0 p.2)
+pub judged : {X : Type 0} (text_of : X → List ℕ) (s : FlatSpec) (bytes : List ℕ) (rows items : List FlatRow) (r : Result X Status) → items ≡ rows → IsFlatDerivation s.input.now bytes rows → MatchResult r (λ x. PrintsEntries s (map entry_of items) (text_of x)) (EntriesFail s (map entry_of items)) → MatchResult r (λ x. Prints s bytes (text_of x)) (DerivationFails s bytes)
+judged text_of s bytes rows items r same h m =
+    let t : IsDerivationText s.input.now bytes (map entry_of items) = subst (λ (z : List FlatRow). IsDerivationText s.input.now bytes (map entry_of z)) (sym same) (derivation_read s.input.now bytes rows h) in
+    MatchResult-weaker r m (λ x p. (map entry_of items, (t, p))) (entries_fail s bytes (map entry_of items) t)
 
--- a cause in a part of the call is a cause in the whole
-wider : (before from now after : ℕ) (files : Option (List File)) (name : List ℕ) → before ≤ from → now ≤ after → HasCause from now files name → HasCause before after files name
-wider before from now after files name le ge (inl rose) = inl (omega arith)
-wider before from now after files name le ge (inr absent) = inr absent
+module _ (files : Option (List File)) (before now : ℕ) (s : FlatSpec) (name bytes : List ℕ) (l : IsLoaded files name bytes) (theory : TheoryTree) where
+  entries_pass : (entries : List Entry) → IsDerivationText s.input.now bytes entries → Passed (derivation_stage (flat_spec s) name) files entries
+  entries_pass entries h = text_passes which.Derivation name (λ k. status.BadDerivation k) (IsBadFor (flat_spec s)) (IsDerivationFor (flat_spec s)) files bytes entries l (s.input.now, refl, h)
 
--- the specification that was read is the file's
-spec_told : (files : Option (List File)) (name bytes : List ℕ) (spec : FlatSpec) → IsLoaded files name bytes → IsSpecRead bytes spec → Told (λ b. ReadsSpec b (flat_spec spec)) files name
-spec_told files name bytes spec l h =
-    told_with (λ b. (bytes ≡ b) × IsShort b) (λ b. ReadsSpec b (flat_spec spec)) files name
-    (λ b k. (k.1, subst (λ (z : List ℕ). IsSpecText z (flat_spec spec)) k.0 (record { name = spec.name.now; names = flat_names spec; term = spec.term; cut = h.cut; is_name = h.is_name; are_names = h.are_names; condition = h.condition; is = refl }))) l
+  rows_fail : (entries : List Entry) (e : Status) → EntriesFail s entries e → Stops (replay_stage theory (flat_spec s) entries) files before now e
+  rows_fail entries (status.NotFollows k) h = told_always (λ fs. (replay_stage theory (flat_spec s) entries).Settles fs (status.NotFollows k)) files (λ fs. inl (k, refl, h))
+  rows_fail entries status.NotFinal h = told_always (λ fs. (replay_stage theory (flat_spec s) entries).Settles fs status.NotFinal) files (λ fs. inr (refl, h theory))
+  rows_fail entries status.NoMemory h = tt
+  rows_fail entries _ h = absurd h
 
-module _ (s : Scene) (n : FileNames) where
-  -- the theory
-  pub theory_comes : (now : ℕ) → now ≤ s.reads_after → s.text_after ≡ s.text → (e : Status) → TheoryEnds s.reads now s.files n.theory e → ComesFor s n e
-  theory_comes now ge same (status.ReadFault which.Theory) h = wider s.reads s.reads now s.reads_after s.files n.theory (omega arith) ge h
-  theory_comes now ge same (status.ReadFault which.Spec) h = absurd h
-  theory_comes now ge same (status.ReadFault which.Derivation) h = absurd h
-  theory_comes now ge same (status.TooLong which.Theory) h = h
-  theory_comes now ge same (status.TooLong which.Spec) h = absurd h
-  theory_comes now ge same (status.TooLong which.Derivation) h = absurd h
-  theory_comes now ge same (status.BadTheory k) h = h
-  theory_comes now ge same status.NoMemory h = inl same
-  theory_comes now ge same status.Done h = absurd h
-  theory_comes now ge same status.Words h = absurd h
-  theory_comes now ge same (status.BadSpec k) h = absurd h
-  theory_comes now ge same (status.BadDerivation k) h = absurd h
-  theory_comes now ge same (status.NotFollows k) h = absurd h
-  theory_comes now ge same status.NotFinal h = absurd h
-  theory_comes now ge same status.WriteFault h = absurd h
+  after_entries : (entries : List Entry) → IsDerivationText s.input.now bytes entries → (e : Status) → EntriesFail s entries e → Stops (derivation_work theory (flat_spec s) name) files before now e
+  after_entries entries t e h =
+      stops_next files (derivation_stage (flat_spec s) name) (λ x. behind (replay_stage theory (flat_spec s) x) (λ p. giving (printed_program theory p))) entries (entries_pass entries t) before before now (omega arith) e
+      (stops_first files (replay_stage theory (flat_spec s) entries) (λ p. giving (printed_program theory p)) before now e (rows_fail entries e h))
 
-  module _ (theory : Told GoodTheory s.files n.theory) where
-    -- the specification isn't read
-    pub spec_load_comes : (from now : ℕ) → s.reads ≤ from → now ≤ s.reads_after → s.text_after ≡ s.text → (e : Status) → LoadFails which.Spec from now s.files n.spec e → ComesFor s n e
-    spec_load_comes from now le ge same (status.ReadFault which.Theory) h = absurd (let k = h.0 in cc)
-    spec_load_comes from now le ge same (status.ReadFault which.Spec) h = (theory, wider s.reads from now s.reads_after s.files n.spec le ge h.1)
-    spec_load_comes from now le ge same (status.ReadFault which.Derivation) h = absurd (let k = h.0 in cc)
-    spec_load_comes from now le ge same (status.TooLong which.Theory) h = absurd (let k = h.0 in cc)
-    spec_load_comes from now le ge same (status.TooLong which.Spec) h = told_two GoodTheory IsLong (λ a b. GoodTheory a × IsLong b) s.files n.theory n.spec (λ a b p q. (p, q)) theory h.1
-    spec_load_comes from now le ge same (status.TooLong which.Derivation) h = absurd (let k = h.0 in cc)
-    spec_load_comes from now le ge same status.NoMemory h = inl same
-    spec_load_comes from now le ge same status.Done h = absurd h
-    spec_load_comes from now le ge same status.Words h = absurd h
-    spec_load_comes from now le ge same (status.BadTheory k) h = absurd h
-    spec_load_comes from now le ge same (status.BadSpec k) h = absurd h
-    spec_load_comes from now le ge same (status.BadDerivation k) h = absurd h
-    spec_load_comes from now le ge same (status.NotFollows k) h = absurd h
-    spec_load_comes from now le ge same status.NotFinal h = absurd h
-    spec_load_comes from now le ge same status.WriteFault h = absurd h
+  derivation_fails : (e : Status) → DerivationFails s bytes e → Stops (derivation_work theory (flat_spec s) name) files before now e
+  derivation_fails (status.BadDerivation k) h =
+      stops_first files (derivation_stage (flat_spec s) name) (λ x. behind (replay_stage theory (flat_spec s) x) (λ p. giving (printed_program theory p))) before now (status.BadDerivation k)
+      (bad_settles which.Derivation name (λ k. status.BadDerivation k) (IsBadFor (flat_spec s)) (IsDerivationFor (flat_spec s)) files bytes k l (s.input.now, refl, h))
+  derivation_fails (status.NotFollows k) h = after_entries h.0 h.1.0 (status.NotFollows k) h.1.1
+  derivation_fails status.NotFinal h = after_entries h.0 h.1.0 status.NotFinal h.1.1
+  derivation_fails status.NoMemory h = tt
+  derivation_fails _ h = absurd h
 
-    -- its text is refused
-    pub spec_text_comes : (bytes : List ℕ) → IsLoaded s.files n.spec bytes → s.text_after ≡ s.text → (e : Status) → SpecFails bytes e → ComesFor s n e
-    spec_text_comes bytes l same (status.BadSpec k) h =
-        told_two GoodTheory (λ b. (bytes ≡ b) × IsShort b) (λ a b. GoodTheory a × (IsShort b × IsFirstBad ExtendsSpec WholeSpec b k)) s.files n.theory n.spec
-        (λ a b p q. (p, (q.1, subst (λ (z : List ℕ). IsFirstBad ExtendsSpec WholeSpec z k) q.0 h))) theory l
-    spec_text_comes bytes l same status.NoMemory h = inl same
-    spec_text_comes bytes l same status.Done h = absurd h
-    spec_text_comes bytes l same status.Words h = absurd h
-    spec_text_comes bytes l same (status.ReadFault w) h = absurd h
-    spec_text_comes bytes l same (status.TooLong w) h = absurd h
-    spec_text_comes bytes l same (status.BadTheory k) h = absurd h
-    spec_text_comes bytes l same (status.BadDerivation k) h = absurd h
-    spec_text_comes bytes l same (status.NotFollows k) h = absurd h
-    spec_text_comes bytes l same status.NotFinal h = absurd h
-    spec_text_comes bytes l same status.WriteFault h = absurd h
+  derivation_passes : (text : List ℕ) → Prints s bytes text → Passed (derivation_work theory (flat_spec s) name) files text
+  derivation_passes text h =
+      let program = h.1.1 theory in
+      passes_next files (derivation_stage (flat_spec s) name) (λ x. behind (replay_stage theory (flat_spec s) x) (λ p. giving (printed_program theory p))) h.0 (entries_pass h.0 h.1.0) text
+      (told_always (λ fs. (behind (replay_stage theory (flat_spec s) h.0) (λ p. giving (printed_program theory p))).Passes fs text) files (λ fs. (program.0, program.1.0, program.1.1)))
 
-    module _ (spec : FlatSpec) (spec_is : Told (λ b. ReadsSpec b (flat_spec spec)) s.files n.spec) where
-      -- what holds of the derivation's text holds of the three texts
-      of_texts : (P : TheoryTree → SpecTree → List Entry → Type 0) → Told (λ d. IsShort d × OfEntries spec (λ entries. (theory : TheoryTree) → P theory (flat_spec spec) entries) d) s.files n.deriv → Told (λ a. Told (λ b. Told (OfTexts P a b) s.files n.deriv) s.files n.spec) s.files n.theory
-      of_texts P h =
-          told_three GoodTheory (λ b. ReadsSpec b (flat_spec spec)) (λ d. IsShort d × OfEntries spec (λ entries. (theory : TheoryTree) → P theory (flat_spec spec) entries) d) (OfTexts P) s.files n.theory n.spec n.deriv
-          (λ a b d p q r. (p.0, (flat_spec spec, (spec.input.now, (r.1.0, (record { theory_text = p.1; spec_text = q; input_is = refl; short = r.0; derivation_text = r.1.1.0 }, r.1.1.1 p.0)))))) theory spec_is h
+-- the derivation that was read, judged
+pub derivation_ends : {X : Type 0} (view : X → List ℕ) (files : Option (List File)) (before now : ℕ) (s : FlatSpec) (name bytes items : List ℕ) (r : Result X Status) → bytes ≡ items → IsLoaded files name items → MatchResult r (λ x. Prints s bytes (view x)) (DerivationFails s bytes) → (theory : TheoryTree) → MatchResult r (λ x. Passed (derivation_work theory (flat_spec s) name) files (view x)) (Stops (derivation_work theory (flat_spec s) name) files before now)
+derivation_ends view files before now s name bytes items r same loaded m theory =
+    let l : IsLoaded files name bytes = subst (IsLoaded files name) (sym same) loaded in
+    MatchResult-weaker r m (λ x h. derivation_passes files before now s name bytes l theory (view x) h) (derivation_fails files before now s name bytes l theory)
 
-      -- what was put is told of the printed program
-      of_print : (P : List ℕ → Type 0) → Told (λ d. IsShort d × ((text : List ℕ) × (Prints spec d text × P text))) s.files n.deriv → Told (λ a. Told (λ b. Told (OfTexts (Writing P) a b) s.files n.deriv) s.files n.spec) s.files n.theory
-      of_print P h =
-          of_texts (Writing P)
-          (told_with (λ d. IsShort d × ((text : List ℕ) × (Prints spec d text × P text))) (λ d. IsShort d × OfEntries spec (λ entries. (theory : TheoryTree) → Writing P theory (flat_spec spec) entries) d) s.files n.deriv
-          (λ d k.
-          let text = k.1.0 in
-          let prints = k.1.1.0 in
-          (k.0, (prints.0, (prints.1.0, (λ t. let g = prints.1.1 t in (g.0, (g.1.0, subst P g.1.1 k.1.1.1))))))) h)
+-- the specification that was read, and then the rest
+spec_passes : (files : Option (List File)) (name bytes : List ℕ) (s : FlatSpec) → IsLoaded files name bytes → IsSpecRead bytes s → Passed (spec_stage name) files (flat_spec s)
+spec_passes files name bytes s l h =
+    text_passes which.Spec name (λ k. status.BadSpec k) (IsFirstBad ExtendsSpec WholeSpec) IsSpecText files bytes (flat_spec s) l
+    (record { name = s.name.now; names = flat_names s; term = s.term; cut = h.cut; is_name = h.is_name; are_names = h.are_names; condition = h.condition; is = refl })
 
-      pub derivation_comes : (from : ℕ) → s.reads ≤ from → (e : Status) → DerivationEnds spec from s.reads_after s.files n.deriv s.text s.text_after s.faults s.faults_after e → ComesFor s n e
-      derivation_comes from le (status.ReadFault which.Derivation) h = (
-        told_two GoodTheory (λ b. ReadsSpec b (flat_spec spec)) GoodSpec s.files n.theory n.spec (λ a b p q. (p, (flat_spec spec, q))) theory spec_is,
-        wider s.reads from s.reads_after s.reads_after s.files n.deriv le (omega arith) h,
-      )
-      derivation_comes from le (status.TooLong which.Derivation) h =
-          told_three GoodTheory (λ b. ReadsSpec b (flat_spec spec)) IsLong (λ a b d. GoodSpec a b × IsLong d) s.files n.theory n.spec n.deriv (λ a b d p q r. ((p, (flat_spec spec, q)), r)) theory spec_is h
-      derivation_comes from le (status.BadDerivation k) h =
-          told_three GoodTheory (λ b. ReadsSpec b (flat_spec spec)) (λ d. IsShort d × IsFirstBad (ExtendsDerivation spec.input.now) WholeDerivation d k)
-          (λ a b d. GoodTheory a × ((spec : SpecTree) × (ReadsSpec b spec × ((input : List ℕ) × (HasInput spec input × (IsShort d × IsFirstBad (ExtendsDerivation input) WholeDerivation d k)))))) s.files n.theory n.spec n.deriv
-          (λ a b d p q r. (p, (flat_spec spec, (q, (spec.input.now, (refl, r)))))) theory spec_is h
-      derivation_comes from le (status.NotFollows k) h =
-          of_texts (λ theory spec entries. IsFirstToFail spec entries k) (told_with (λ d. IsShort d × DerivationFails spec d (status.NotFollows k)) (λ d. IsShort d × OfEntries spec (λ entries. (theory : TheoryTree) → IsFirstToFail (flat_spec spec) entries k) d) s.files n.deriv (λ d r. (r.0, (r.1.0, (r.1.1.0, (λ t. r.1.1.1))))) h)
-      derivation_comes from le status.NotFinal h = of_texts IsUnfinished h
-      derivation_comes from le status.Done h = of_print (Adds s.text s.text_after) h
-      derivation_comes from le status.WriteFault h = (of_print (AddsPrefix s.text s.text_after) h.0, h.1)
-      derivation_comes from le status.NoMemory (inl same) = inl same
-      derivation_comes from le status.NoMemory (inr part) = inr (of_print (AddsPrefix s.text s.text_after) part)
-      derivation_comes from le status.Words h = absurd h
-      derivation_comes from le (status.ReadFault which.Theory) h = absurd h
-      derivation_comes from le (status.ReadFault which.Spec) h = absurd h
-      derivation_comes from le (status.TooLong which.Theory) h = absurd h
-      derivation_comes from le (status.TooLong which.Spec) h = absurd h
-      derivation_comes from le (status.BadTheory k) h = absurd h
-      derivation_comes from le (status.BadSpec k) h = absurd h
+pub after_spec : {X : Type 0} (view : X → List ℕ) (files later : Option (List File)) (before from now : ℕ) (s : FlatSpec) (name deriv bytes items : List ℕ) (r : Result X Status) → bytes ≡ items → IsLoaded files name items → IsSpecRead bytes s → later ≡ files → before ≤ from → ((theory : TheoryTree) → MatchResult r (λ x. Passed (derivation_work theory (flat_spec s) deriv) later (view x)) (Stops (derivation_work theory (flat_spec s) deriv) later from now)) → (theory : TheoryTree) → MatchResult r (λ x. Passed (spec_work theory name deriv) files (view x)) (Stops (spec_work theory name deriv) files before now)
+after_spec view files later before from now s name deriv bytes items r same loaded read stay le m theory =
+    rest_ends files (spec_stage name) (λ x. derivation_work theory x deriv) (flat_spec s) (spec_passes files name bytes s (subst (IsLoaded files name) (sym same) loaded) read) view later before from now r stay le (m theory)
 
--- all the way: the files stay, and the faults of reading only rise
-pub check_comes : (files first second : Option (List File)) (reads reads_first reads_second reads_after : ℕ) (text text_after : Option (List ℕ)) (faults faults_after : ℕ) (n : FileNames) (bytes items : List ℕ) (spec : FlatSpec) (e : Status) → first ≡ files → second ≡ first → reads ≤ reads_first → reads_first ≤ reads_second → Told GoodTheory files n.theory → bytes ≡ items → IsLoaded first n.spec items → IsSpecRead bytes spec → DerivationEnds spec reads_second reads_after second n.deriv text text_after faults faults_after e → ComesFor (record { words = []; files = files; reads = reads; reads_after = reads_after; text = text; text_after = text_after; faults = faults; faults_after = faults_after }) n e
-check_comes files first second reads reads_first reads_second reads_after text text_after faults faults_after n bytes items spec e f g le more theory same loaded read ends =
-    let s : Scene = record { words = []; files = files; reads = reads; reads_after = reads_after; text = text; text_after = text_after; faults = faults; faults_after = faults_after } in
-    let l : IsLoaded files n.spec bytes = subst (λ (z : List ℕ). IsLoaded files n.spec z) (sym same) (subst (λ (z : Option (List File)). IsLoaded z n.spec items) f loaded) in
-    derivation_comes s n theory spec (spec_told files n.spec bytes spec l read) reads_second (omega arith) e
-    (subst (λ (z : Option (List File)). DerivationEnds spec reads_second reads_after z n.deriv text text_after faults faults_after e) (g ∙ f) ends)
+-- the theory that was read, and then the rest
+pub after_theory : {X : Type 0} (view : X → List ℕ) (files later : Option (List File)) (before from now : ℕ) (name spec deriv : List ℕ) (r : Result X Status) → ((theory : TheoryTree) × Passed (theory_stage name) files theory) → later ≡ files → before ≤ from → ((theory : TheoryTree) → MatchResult r (λ x. Passed (spec_work theory spec deriv) later (view x)) (Stops (spec_work theory spec deriv) later from now)) → MatchResult r (λ x. Passed (work (command.Check name spec deriv)) files (view x)) (Stops (work (command.Check name spec deriv)) files before now)
+after_theory view files later before from now name spec deriv r read stay le m =
+    rest_ends files (theory_stage name) (λ t. spec_work t spec deriv) read.0 read.1 view later before from now r stay le (m read.0)
+
+-- what is said of a command is said of one that it is
+pub handed_on : {X : Type 0} (view : X → List ℕ) (files : Option (List File)) (before now : ℕ) (c k : Command) (r : Result X Status) → c ≡ k → MatchResult r (λ x. Passed (work k) files (view x)) (Stops (work k) files before now) → MatchResult r (λ x. Passed (work c) files (view x)) (Stops (work c) files before now)
+handed_on view files before now c k r same m = subst (λ (z : Command). MatchResult r (λ x. Passed (work z) files (view x)) (Stops (work z) files before now)) (sym same) m

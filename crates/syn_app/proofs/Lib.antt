@@ -15,9 +15,11 @@ pub mod SpecTexts
 pub mod RowTexts
 pub mod Accepted
 pub mod Tables
-pub mod Judged
+pub mod Stops
 pub mod Ending
 pub mod Exact
-pub mod Unique
+pub mod OneStage
+pub mod OneStatus
+pub mod Saying
 pub mod OneProgram
 pub mod PrintedProgram

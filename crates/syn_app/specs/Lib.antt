@@ -18,6 +18,8 @@ pub mod Status
 pub mod Words
 pub mod Checks
 pub mod Comes
-pub mod Settled
+pub mod Stages
+pub mod Work
+pub mod Refusals
 pub mod ProgramTexts
 pub mod inner

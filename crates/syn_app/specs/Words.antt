@@ -10,10 +10,6 @@ pub record IsCheck (words : List (List ℕ)) (theory spec deriv : List ℕ) : Ty
   pub some_spec : spec ≢ []
   pub some_deriv : deriv ≢ []
 
--- the words are no check, whatever the names
-abbrev pub IsNoCheck : List (List ℕ) → Type 0
-IsNoCheck words = (theory spec deriv : List ℕ) → ¬ (IsCheck words theory spec deriv)
-
 -- the words are the form of this command
 abbrev pub Fits : List (List ℕ) → Command → Type 0
 Fits words (command.Check theory spec deriv) = IsCheck words theory spec deriv

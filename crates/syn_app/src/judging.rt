@@ -1,17 +1,19 @@
-// The parts of a check, in the order of the work: a file read whole, its text judged, and at the
-// end the program's text put into the sink.
+// The work of each command, stage by stage: a file read whole, its text judged, and what follows from
+// it. It ends with the text that the command puts, or with a status; the one write is behind it.
 ghost use Rattle.std.specs.Prelude.{◌≡◌, ◌≤◌, map, IfOk, IfErr, MatchResult, string_bytes};
-ghost use Rattle.syn_outside.specs.Files.{Told};
 ghost use Rattle.syn_app.specs.ProgramText.{printed_program};
 ghost use Rattle.syn_app.specs.Trees.{TheoryTree};
-ghost use Rattle.syn_app.specs.inner.Checks.{flat_names};
-ghost use Rattle.syn_app.specs.Comes.{GoodTheory, IsRefusal, TellsPuts, TellsReads};
+ghost use Rattle.syn_app.specs.inner.Checks.{flat_names, flat_spec};
+ghost use Rattle.syn_app.specs.Comes.{Passed, Stops, TellsPuts, TellsReads};
 ghost use Rattle.syn_app.specs.DerivationText.{entry_of};
 ghost use Rattle.syn_app.specs.inner.Printing.{nat_program, nat_program_symbols};
 ghost use Rattle.syn_app.specs.SpecText.{AreProgramNames, IsCondition};
-ghost use Rattle.syn_app.specs.inner.Judging.{DerivationEnds, DerivationFails, EntriesFail, IsTheory, IsLoaded, IsSpecRead, LoadFails, Prints, PrintsEntries, SpecFails, TheoryEnds, TheoryFails, WriteEnds};
+ghost use Rattle.syn_app.specs.Work.{derivation_work, spec_work, theory_stage, work};
+ghost use Rattle.syn_app.specs.inner.Judging.{DerivationFails, EntriesFail, IsTheory, IsLoaded, IsSpecRead, LoadFails, Prints, PrintsEntries, SpecFails, TheoryFails, WriteEnds};
+ghost use Rattle.syn_app.specs.inner.Requests.{command_asked};
 
 use crate::check::{check, symbols_of};
+use crate::command::{Command, Names, Request, names_of};
 use crate::derivation_text::read_derivation;
 use crate::flat::FlatRow;
 use crate::printing::print_program;
@@ -28,12 +30,7 @@ use syn_term::{NoMemory, Symbols, Term};
 const MOST_BYTES: u64 = 4_194_304;
 
 /// The bytes of a file.
-pub(crate) fn load<C: Cabinet>(
-    alloc: Global,
-    cab: &mut C,
-    name: &str,
-    which: Which,
-) -> Result<Vec<u8>, Status>
+fn load<C: Cabinet>(alloc: Global, cab: &mut C, name: &str, which: Which) -> Result<Vec<u8>, Status>
     ensures bytes { IfOk result (λ v. IsLoaded (C.files cab.old) name.now v.items) }
     ensures status { IfErr result (LoadFails which (C.read_faults cab.old) (C.read_faults cab.new) (C.files cab.old) name.now) }
     ensures files { C.files cab.new ≡ C.files cab.old }
@@ -60,7 +57,7 @@ fn judge_theory(alloc: Global, bytes: &[u8]) -> Result<(), Status>
 }
 
 /// The specification that the bytes are the text of.
-pub(crate) fn judge_spec(alloc: Global, bytes: &[u8]) -> Result<FlatSpec<'_>, Status>
+fn judge_spec(alloc: Global, bytes: &[u8]) -> Result<FlatSpec<'_>, Status>
     ensures { MatchResult result (IsSpecRead bytes.now) (SpecFails bytes.now) }
 {
     match read_spec(alloc, bytes) {
@@ -119,11 +116,7 @@ fn judge_rows(alloc: Global, spec: &FlatSpec<'_>, rows: &[FlatRow]) -> Result<St
 }
 
 /// The text of the program of the derivation that the bytes are the text of.
-pub(crate) fn judge_derivation(
-    alloc: Global,
-    spec: &FlatSpec<'_>,
-    bytes: &[u8],
-) -> Result<String, Status>
+fn judge_derivation(alloc: Global, spec: &FlatSpec<'_>, bytes: &[u8]) -> Result<String, Status>
     requires names { AreProgramNames (flat_names spec.now) }
     requires condition { IsCondition spec.now.term }
     ensures { MatchResult result (λ text. Prints spec.now bytes.now (string_bytes text)) (DerivationFails spec.now bytes.now) }
@@ -135,21 +128,9 @@ pub(crate) fn judge_derivation(
     }
 }
 
-/// Puts the text of a program into the sink.
-fn write<S: Sink>(out: &mut S, text: &str) -> Status
-    ensures ends { WriteEnds (S.text out.old) (S.text out.new) (S.faults out.old) (S.faults out.new) text.now result }
-    ensures tells { TellsPuts result (S.faults out.old) (S.faults out.new) }
-{
-    match put_all(out, text.as_bytes()) {
-        Ok(()) => Status::Done,
-        Err(WriteError::Fault) => Status::WriteFault,
-        Err(WriteError::NoMemory) => Status::NoMemory,
-    }
-}
-
 /// Reads the theory and judges its text.
-pub(crate) fn check_theory<C: Cabinet>(alloc: Global, cab: &mut C, name: &str) -> Result<(), Status>
-    ensures status { MatchResult result (λ _. Told GoodTheory (C.files cab.old) name.now) (TheoryEnds (C.read_faults cab.old) (C.read_faults cab.new) (C.files cab.old) name.now) }
+fn check_theory<C: Cabinet>(alloc: Global, cab: &mut C, name: &str) -> Result<(), Status>
+    ensures status { MatchResult result (λ _. (theory : TheoryTree) × Passed (theory_stage name.now) (C.files cab.old) theory) (Stops (theory_stage name.now) (C.files cab.old) (C.read_faults cab.old) (C.read_faults cab.new)) }
     ensures files { C.files cab.new ≡ C.files cab.old }
     ensures later { C.read_faults cab.old ≤ C.read_faults cab.new }
     ensures tells { MatchResult result (λ _. C.read_faults cab.new ≡ C.read_faults cab.old) (λ e. TellsReads e (C.read_faults cab.old) (C.read_faults cab.new)) }
@@ -160,28 +141,82 @@ pub(crate) fn check_theory<C: Cabinet>(alloc: Global, cab: &mut C, name: &str) -
     }
 }
 
-/// Reads the derivation, judges its text and its rows, and writes the program.
-pub(crate) fn check_derivation<C: Cabinet, S: Sink>(
+/// Reads the derivation, judges its text and its rows, and answers the text of its program.
+fn derivation_text<C: Cabinet>(
     alloc: Global,
-    name: &str,
-    spec: &FlatSpec<'_>,
     cab: &mut C,
-    out: &mut S,
-) -> Status
+    spec: &FlatSpec<'_>,
+    name: &str,
+) -> Result<String, Status>
     requires names { AreProgramNames (flat_names spec.now) }
     requires condition { IsCondition spec.now.term }
-    ensures status { DerivationEnds spec.now (C.read_faults cab.old) (C.read_faults cab.new) (C.files cab.old) name.now (S.text out.old) (S.text out.new) (S.faults out.old) (S.faults out.new) result }
-    ensures before { IsRefusal result → S.text out.new ≡ S.text out.old }
+    ensures status { (theory : TheoryTree) → MatchResult result (λ text. Passed (derivation_work theory (flat_spec spec.now) name.now) (C.files cab.old) (string_bytes text)) (Stops (derivation_work theory (flat_spec spec.now) name.now) (C.files cab.old) (C.read_faults cab.old) (C.read_faults cab.new)) }
     ensures files { C.files cab.new ≡ C.files cab.old }
     ensures later { C.read_faults cab.old ≤ C.read_faults cab.new }
-    ensures tells_reads { TellsReads result (C.read_faults cab.old) (C.read_faults cab.new) }
-    ensures tells_puts { TellsPuts result (S.faults out.old) (S.faults out.new) }
+    ensures tells { MatchResult result (λ _. C.read_faults cab.new ≡ C.read_faults cab.old) (λ e. TellsReads e (C.read_faults cab.old) (C.read_faults cab.new)) }
 {
     match load(alloc, cab, name, Which::Derivation) {
-        Err(status) => status,
-        Ok(bytes) => match judge_derivation(alloc, spec, bytes.as_slice()) {
-            Err(status) => status,
-            Ok(text) => write(out, text.as_str()),
+        Err(status) => Err(status),
+        Ok(bytes) => judge_derivation(alloc, spec, bytes.as_slice()),
+    }
+}
+
+/// Reads the specification and judges its text, and then the derivation.
+fn spec_text<C: Cabinet>(
+    alloc: Global,
+    cab: &mut C,
+    name: &str,
+    deriv: &str,
+) -> Result<String, Status>
+    ensures status { (theory : TheoryTree) → MatchResult result (λ text. Passed (spec_work theory name.now deriv.now) (C.files cab.old) (string_bytes text)) (Stops (spec_work theory name.now deriv.now) (C.files cab.old) (C.read_faults cab.old) (C.read_faults cab.new)) }
+    ensures files { C.files cab.new ≡ C.files cab.old }
+    ensures later { C.read_faults cab.old ≤ C.read_faults cab.new }
+    ensures tells { MatchResult result (λ _. C.read_faults cab.new ≡ C.read_faults cab.old) (λ e. TellsReads e (C.read_faults cab.old) (C.read_faults cab.new)) }
+{
+    match load(alloc, cab, name, Which::Spec) {
+        Err(status) => Err(status),
+        Ok(bytes) => match judge_spec(alloc, bytes.as_slice()) {
+            Err(status) => Err(status),
+            Ok(spec) => derivation_text(alloc, cab, &spec, deriv),
         },
+    }
+}
+
+/// The text that a check puts: that of the program of the derivation.
+fn check_text<C: Cabinet>(alloc: Global, cab: &mut C, names: Names<'_>) -> Result<String, Status>
+    ensures status { MatchResult result (λ text. Passed (work (Command.Check names.entry.theory.now names.entry.spec.now names.entry.deriv.now)) (C.files cab.old) (string_bytes text)) (Stops (work (Command.Check names.entry.theory.now names.entry.spec.now names.entry.deriv.now)) (C.files cab.old) (C.read_faults cab.old) (C.read_faults cab.new)) }
+    ensures files { C.files cab.new ≡ C.files cab.old }
+    ensures later { C.read_faults cab.old ≤ C.read_faults cab.new }
+    ensures tells { MatchResult result (λ _. C.read_faults cab.new ≡ C.read_faults cab.old) (λ e. TellsReads e (C.read_faults cab.old) (C.read_faults cab.new)) }
+{
+    match check_theory(alloc, cab, names.theory) {
+        Err(status) => Err(status),
+        Ok(()) => spec_text(alloc, cab, names.spec, names.deriv),
+    }
+}
+
+/// The text that a command puts into the sink.
+pub(crate) fn command_text<C: Cabinet>(
+    alloc: Global,
+    cab: &mut C,
+    request: Request<'_>,
+) -> Result<String, Status>
+    ensures status { MatchResult result (λ text. Passed (work (command_asked request.entry)) (C.files cab.old) (string_bytes text)) (Stops (work (command_asked request.entry)) (C.files cab.old) (C.read_faults cab.old) (C.read_faults cab.new)) }
+    ensures files { C.files cab.new ≡ C.files cab.old }
+    ensures later { C.read_faults cab.old ≤ C.read_faults cab.new }
+    ensures tells { MatchResult result (λ _. C.read_faults cab.new ≡ C.read_faults cab.old) (λ e. TellsReads e (C.read_faults cab.old) (C.read_faults cab.new)) }
+{
+    check_text(alloc, cab, names_of(request))
+}
+
+/// Puts the text into the sink.
+pub(crate) fn write<S: Sink>(out: &mut S, text: &str) -> Status
+    ensures ends { WriteEnds (S.text out.old) (S.text out.new) (S.faults out.old) (S.faults out.new) text.now result }
+    ensures tells { TellsPuts result (S.faults out.old) (S.faults out.new) }
+{
+    match put_all(out, text.as_bytes()) {
+        Ok(()) => Status::Done,
+        Err(WriteError::Fault) => Status::WriteFault,
+        Err(WriteError::NoMemory) => Status::NoMemory,
     }
 }

@@ -4,7 +4,7 @@ ghost use Rattle.std.specs.Prelude.{◌≡◌, ◌⊎◌, MatchResult};
 ghost use Rattle.std.specs.IoError.{error_kind};
 ghost use Rattle.std.specs.Process.{exit_status};
 ghost use Rattle.syn_app.specs.Status.{status_number};
-ghost use Rattle.syn_app.specs.Words.{IsNoCheck};
+ghost use Rattle.syn_app.specs.Words.{FitsNone};
 ghost use Rattle.syn_app.specs.declared.status.Status.{Status};
 ghost use Rattle.syn_main.specs.Ending as ending;
 ghost use Rattle.syn_main.specs.Ending.{Reaches, words_of};
@@ -42,8 +42,8 @@ fn answer<C: Cabinet, S: Sink>(
     out: &mut S,
 ) -> Status
     ensures reaches { MatchResult args (λ a. Reaches (record { words = words_of a.rest.items; files = C.files cab.old; reads = C.read_faults cab.old; reads_after = C.read_faults cab.new; text = S.text out.old; text_after = S.text out.new; faults = S.faults out.old; faults_after = S.faults out.new }) result) (λ error. result ≡ ending.refusal (error_kind error)) }
-    ensures words { result ≡ Status.Words → MatchResult args (λ a. IsNoCheck (words_of a.rest.items)) (λ error. ending.refusal (error_kind error) ≡ Status.Words) }
-    ensures no_words { MatchResult args (λ a. IsNoCheck (words_of a.rest.items)) (λ error. ending.refusal (error_kind error) ≡ Status.Words) → (result ≡ Status.Words) ⊎ (result ≡ Status.NoMemory) }
+    ensures words { result ≡ Status.Words → MatchResult args (λ a. FitsNone (words_of a.rest.items)) (λ error. ending.refusal (error_kind error) ≡ Status.Words) }
+    ensures no_words { MatchResult args (λ a. FitsNone (words_of a.rest.items)) (λ error. ending.refusal (error_kind error) ≡ Status.Words) → (result ≡ Status.Words) ⊎ (result ≡ Status.NoMemory) }
 {
     match args {
         Err(error) => refusal(error.kind()),

@@ -1,5 +1,5 @@
 -- For private contracts: what each part of a check answers.
-use Rattle.std.specs.Prelude.{◌≡◌, ◌⊎◌, ℕ, List, Option}
+use Rattle.std.specs.Prelude.{◌≡◌, ℕ, List, Option}
 use Rattle.syn_outside.specs.Files.{File, Told}
 use Rattle.syn_outside.specs.Faults.{HasCause, Rose}
 use Rattle.syn_outside.specs.Texts.{Adds, AddsPrefix}
@@ -10,7 +10,6 @@ use Rattle.syn_app.specs.declared.spec_text.FlatSpec.{FlatSpec}
 use Rattle.syn_app.specs.declared.status.Status.{Status}
 use Rattle.syn_app.specs.declared.status.Status.TheVariants as status
 use Rattle.syn_app.specs.declared.status.Which.{Which}
-use Rattle.syn_app.specs.declared.status.Which.TheVariants as which
 use Rattle.syn_lex.specs.TextLines.{IsFirstBad}
 use Rattle.syn_app.specs.TheoryText.{ExtendsTheory, IsTheoryText, WholeTheory}
 use Rattle.syn_app.specs.SpecText.{ExtendsSpec, WholeSpec}
@@ -19,7 +18,7 @@ use Rattle.syn_app.specs.Replay.{IsFirstToFail, IsUnfinished}
 use Rattle.syn_app.specs.Checks.{IsProven}
 use Rattle.syn_app.specs.inner.Checks.{flat_names, flat_spec}
 use Rattle.syn_app.specs.inner.Readers.{IsFlatSpec}
-use Rattle.syn_app.specs.Comes.{IsLong, IsShort}
+use Rattle.syn_app.specs.Stages.{IsLong, IsShort}
 
 -- the bytes are the file's, where files are told, and they are short enough
 abbrev pub IsLoaded : Option (List File) → List ℕ → List ℕ → Type 0
@@ -84,27 +83,3 @@ WriteEnds old new before now text status.Done = Adds old new text
 WriteEnds old new before now text status.WriteFault = AddsPrefix old new text × Rose before now
 WriteEnds old new before now text status.NoMemory = AddsPrefix old new text
 WriteEnds old new before now text _ = ⊥
-
--- how the check of the theory ends where it isn't well
-abbrev pub TheoryEnds : ℕ → ℕ → Option (List File) → List ℕ → Status → Type 0
-TheoryEnds before now files name (status.ReadFault which.Theory) = HasCause before now files name
-TheoryEnds before now files name (status.TooLong which.Theory) = Told IsLong files name
-TheoryEnds before now files name (status.BadTheory k) = Told (λ a. IsShort a × IsFirstBad ExtendsTheory WholeTheory a k) files name
-TheoryEnds before now files name status.NoMemory = Unit {0}
-TheoryEnds before now files name _ = ⊥
-
--- the program's text, of which some bytes were put
-abbrev pub PutsPart : FlatSpec → Option (List File) → List ℕ → Option (List ℕ) → Option (List ℕ) → Type 0
-PutsPart s files name old new = Told (λ d. IsShort d × ((text : List ℕ) × (Prints s d text × AddsPrefix old new text))) files name
-
--- how the check of the derivation ends, the write with it
-abbrev pub DerivationEnds : FlatSpec → ℕ → ℕ → Option (List File) → List ℕ → Option (List ℕ) → Option (List ℕ) → ℕ → ℕ → Status → Type 0
-DerivationEnds s before now files name old new faults faults_now (status.ReadFault which.Derivation) = HasCause before now files name
-DerivationEnds s before now files name old new faults faults_now (status.TooLong which.Derivation) = Told IsLong files name
-DerivationEnds s before now files name old new faults faults_now (status.BadDerivation k) = Told (λ d. IsShort d × DerivationFails s d (status.BadDerivation k)) files name
-DerivationEnds s before now files name old new faults faults_now (status.NotFollows k) = Told (λ d. IsShort d × DerivationFails s d (status.NotFollows k)) files name
-DerivationEnds s before now files name old new faults faults_now status.NotFinal = Told (λ d. IsShort d × DerivationFails s d status.NotFinal) files name
-DerivationEnds s before now files name old new faults faults_now status.Done = Told (λ d. IsShort d × ((text : List ℕ) × (Prints s d text × Adds old new text))) files name
-DerivationEnds s before now files name old new faults faults_now status.WriteFault = PutsPart s files name old new × Rose faults faults_now
-DerivationEnds s before now files name old new faults faults_now status.NoMemory = (new ≡ old) ⊎ PutsPart s files name old new
-DerivationEnds s before now files name old new faults faults_now _ = ⊥

@@ -1,6 +1,6 @@
 -- For private contracts: the rows that follow for a specification whose condition is `z = T`, with no variable in T: a variant of the goal, or
 -- `true | T`. The check looks for these two shapes, and a law ties them to the rules.
-use Rattle.std.specs.Prelude.{◌≡◌, ◌≢◌, ◌⊎◌, ℕ, ◌+◌, ◌<◌, ◌≤◌, List, [], Option, None, Some, take, length, slice_get}
+use Rattle.std.specs.Prelude.{◌≡◌, ◌≢◌, ◌⊎◌, ℕ, ◌+◌, ◌<◌, List, [], Option, None, Some, take, length, slice_get}
 use Rattle.syn_term.specs.declared.sorts.Sort.TheVariants as sort
 use Rattle.syn_term.specs.declared.sorts.Sym.{Sym}
 use Rattle.syn_term.specs.declared.sorts.SymId.{SymId}
@@ -10,8 +10,7 @@ use Rattle.syn_term.specs.Terms.{TermTree, variable_tree}
 use Rattle.syn_term.specs.Bank.{Kept, Agree, Belongs}
 use Rattle.syn_app.specs.declared.trees.Form.TheVariants as form
 use Rattle.syn_app.specs.declared.trees.Out.TheVariants as out
-use Rattle.syn_app.specs.Trees.{FormTree, OutTree, SpecTree}
-use Rattle.syn_app.specs.declared.flat.FlatTerm.{FlatTerm}
+use Rattle.syn_app.specs.Trees.{FormTree, OutTree}
 use Rattle.syn_app.specs.declared.flat.Row.{Row}
 use Rattle.syn_app.specs.declared.flat.Step.{Step}
 use Rattle.syn_app.specs.declared.flat.Step.TheVariants as step
@@ -22,8 +21,7 @@ use Rattle.syn_app.specs.declared.flat.FlatRow.{FlatRow}
 use Rattle.syn_app.specs.DerivationText.{row_tree}
 use Rattle.syn_app.specs.Rows.{bare_row, simplified_row}
 use Rattle.syn_app.specs.Replay.{row_at, simplified_rows}
-use Rattle.syn_app.specs.SpecText.{ensures_of}
-use Rattle.syn_app.specs.Terms.{term_tree, term_size, IsClosed, zero_id, succ_id, input_id}
+use Rattle.syn_app.specs.Terms.{zero_id, succ_id, input_id}
 
 -- the row variable with this number
 abbrev pub row_variable : ℕ → TermTree

@@ -1,6 +1,7 @@
 -- The four words are the texts that `check_form` judged.
 use Rattle.std.proofs.Common.{MatchOption, List, ℕ, subst, string_bytes}
-use Rattle.syn_app.specs.Words.{IsCheck, IsNoCheck}
+use Rattle.syn_app.specs.Words.{IsCheck}
+use Rattle.syn_app.specs.inner.Requests.{IsNoCheck}
 use Rattle.syn_app.proofs.FourWords.{map-four}
 use Rattle.syn_app.proofs.command.check_names.Goals as goal
 

@@ -1,5 +1,5 @@
 use Rattle.std.proofs.Common.{string_bytes}
-use Rattle.syn_app.proofs.Judged.{judged}
+use Rattle.syn_app.proofs.Ending.{judged}
 use Rattle.syn_app.proofs.judging.judge_derivation.Goals as goal
 
 pub returns-in-Ok : goal.returns-in-Ok
