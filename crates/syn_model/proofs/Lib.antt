@@ -36,3 +36,17 @@ pub mod OneOutcome
 pub mod BareEvaluation
 pub mod TruthEquations
 pub mod CorrectRows
+pub mod KeptReadings
+pub mod GrowingMeanings
+pub mod Given
+pub mod SortedEvaluation
+pub mod SortedValues
+pub mod MadeValues
+pub mod FittingArguments
+pub mod Recursion
+pub mod GrowingTables
+pub mod ClauseLists
+pub mod GrowingTheories
+pub mod OrdersGiving
+pub mod AlwaysGiving
+pub mod SymbolsGive

@@ -13,3 +13,4 @@ pub mod Evaluation
 pub mod Calls
 pub mod Truth
 pub mod Correctness
+pub mod Totality

@@ -1,4 +1,3 @@
-use Rattle.std.proofs.Common.{◌∙◌}
 use Rattle.syn_model.proofs.Taken.{taken_by_symbol}
 use Rattle.syn_model.proofs.naming.has_name.Goals as goal
 
