@@ -1,5 +1,5 @@
 -- All symbols of a theory in which no clause is missing give something on all values of the sorts of their arguments.
-use Rattle.std.proofs.Common.{◌≡◌, ◌≢◌, ◌⊎◌, inl, inr, ℕ, zero, suc, ◌+◌, ◌<◌, Bool, true, false, List, [], ◌∷◌, ◌++◌, All, Contains, IfSome, Option, Some, None, fold, get_or, if◌then◌else◌, length, map, append_assoc, append-nil, slice_get, refl, sym, ap, subst, ◌∙◌, true≢false, arith}
+use Rattle.std.proofs.Common.{◌≡◌, ◌≢◌, ◌⊎◌, inl, inr, ℕ, zero, suc, ◌<◌, Bool, true, false, List, [], ◌∷◌, ◌++◌, All, Contains, IfSome, Option, Some, None, get_or, if◌then◌else◌, length, map, append_assoc, slice_get, refl, sym, ap, subst, ◌∙◌, true≢false, arith}
 use Rattle.std.specs.List.{flat_map}
 use Rattle.std.specs.List.{position}
 use Rattle.std.specs.Option.{option_and_then, option_map}
@@ -8,7 +8,7 @@ use Rattle.std.proofs.lemmas.List.Quantifiers.{position-Some}
 use Rattle.std.proofs.lemmas.Slice.Eq.{bytes_eq-Decides}
 use Rattle.std.specs.Str.{bytes_eq}
 use Rattle.std.proofs.lemmas.List.{get_or-map, length-map, map-append}
-use Rattle.std.proofs.lemmas.List.Elements.{All-cons, All-contains, All-head, All-nil}
+use Rattle.std.proofs.lemmas.List.Elements.{All-cons, All-contains, All-nil}
 use Rattle.std.proofs.lemmas.List.Sums.{fold-append}
 use Rattle.std.proofs.lemmas.Option.{get_or_from_slice_get, slice_get-get_or, slice_get_within}
 use Rattle.syn_term.specs.declared.sorts.Sort.{Sort}
@@ -17,7 +17,7 @@ use Rattle.syn_term.specs.declared.sorts.SymId.{SymId}
 use Rattle.syn_term.specs.declared.sorts.Var.{Var}
 use Rattle.syn_term.specs.DeclaredSorts.{IsTable, cons_symbol, make_symbol, nil_symbol}
 use Rattle.syn_term.specs.Names.{IsName}
-use Rattle.syn_term.specs.Symbols.{IsSort, SymbolTable, first_symbols, names_of, succ_symbol, symbol_at, with_symbol, zero_symbol}
+use Rattle.syn_term.specs.Symbols.{IsSort, SymbolTable, first_symbols, names_of, succ_symbol, symbol_at, zero_symbol}
 use Rattle.syn_term.specs.Terms.{TermTree}
 use Rattle.syn_term.proofs.SymbolLaws.{symbol_at-IsPrefix}
 use Rattle.syn_term.proofs.WordRuns.{name_is_word, word_nonempty}
@@ -29,23 +29,22 @@ use Rattle.syn_value.specs.Values.{OfSort}
 use Rattle.syn_model.specs.declared.decl.Decl.{Decl}
 use Rattle.syn_model.specs.declared.decl.Decl.TheVariants as decl
 use Rattle.syn_model.specs.declared.uses.Rest.{Rest}
-use Rattle.syn_model.specs.Calls.{Chosen, Meaning, by_function, by_measure, by_relation, chosen, first_of, numbered_values, reading_at, truth_by, value_by}
+use Rattle.syn_model.specs.Calls.{Chosen, Meaning, by_function, by_measure, by_relation, first_of, numbered_values, reading_at, truth_by, value_by}
 use Rattle.syn_model.specs.Clausal.{Clause, function_clause, function_clauses, measure_in, measures_of, relation_clause, relation_clauses}
 use Rattle.syn_model.specs.Clauses.{HasArguments, UsesForm, UsesOut, turn_of}
 use Rattle.syn_model.specs.Declaring.{AreAmong, IsTheory, MayDeclare, MayFunClause, MayRelClause, nothing, one_more, symbol_of_name}
 use Rattle.syn_model.specs.Evaluation.{Counted, Environment, after, evaluate_form, evaluate_out, with_turns}
 use Rattle.syn_model.specs.Headings.{Heading, are_all, has_clauses, heading_after, heading_of, is_complete, is_whole}
 use Rattle.syn_model.specs.Tables.{fun_symbol, order_symbol, rel_symbol, table_after, table_of}
-use Rattle.syn_model.specs.Theories.{MayBring}
 use Rattle.syn_model.specs.Truth.{OfSorts, theory_meaning}
 use Rattle.syn_model.proofs.ClauseLists.{heading_name, no_clauses, no_measure, picked_more, same_test}
 use Rattle.syn_model.proofs.Given.{Given}
-use Rattle.syn_model.proofs.GrowingMeanings.{Grows, grown_part, kept_measure}
+use Rattle.syn_model.proofs.GrowingMeanings.{grown_part, kept_measure}
 use Rattle.syn_model.proofs.GrowingTables.{is_table, next_grows, sorts_back, table_next}
 use Rattle.syn_model.proofs.GrowingTheories.{gives_more, theory_grows}
 use Rattle.syn_model.proofs.MadeValues.{IsConstructor, constructor_gives}
 use Rattle.syn_model.proofs.OrdersGiving.{order_given}
-use Rattle.syn_model.proofs.Recursion.{AreRead, Called, one_clause, two_clauses}
+use Rattle.syn_model.proofs.Recursion.{Called, one_clause, two_clauses}
 use Rattle.syn_model.proofs.SortedEvaluation.{Able, GivesOn, IsAny, form_given, out_given, same_or_other}
 use Rattle.syn_model.proofs.SortedValues.{AllMade, made_of}
 

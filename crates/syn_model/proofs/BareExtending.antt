@@ -1,23 +1,22 @@
 -- A part may follow those of a specification just where it may with the places of all terms left out: nothing that is asked looks at a
 -- place.
-use Rattle.std.proofs.Common.{◌≡◌, ◌≢◌, ◌↔◌, ℕ, ◌<◌, List, [], ◌∷◌, ◌++◌, All, Any, Option, None, Some, map, slice_get, refl, sym, ◌∙◌, ap, subst}
+use Rattle.std.proofs.Common.{◌≡◌, ◌≢◌, ◌↔◌, ℕ, ◌<◌, List, [], ◌∷◌, All, Option, None, Some, map, slice_get, refl, sym, ◌∙◌, ap, subst}
 use Rattle.std.specs.Option.{option_map}
 use Rattle.std.proofs.lemmas.List.{map-append}
 use Rattle.std.proofs.lemmas.Option.{get_or_from_slice_get, slice_get-get_or, slice_get-map, slice_get_within}
 use Rattle.syn_term.specs.declared.sorts.SymId.{SymId}
 use Rattle.syn_term.specs.declared.sorts.Var.{Var}
-use Rattle.syn_term.specs.Terms.{TermTree, bare}
+use Rattle.syn_term.specs.Terms.{bare}
 use Rattle.syn_form.specs.declared.trees.Binder.{Binder}
-use Rattle.syn_form.specs.PlainQuantified.{binders_of}
-use Rattle.syn_form.specs.Quantified.{bare_qform, free_vars}
-use Rattle.syn_form.specs.Trees.{FormTree, QFormTree, bare_form, form_vars}
-use Rattle.syn_form.proofs.BareFacts.{binders_bare, both_along, both_and, both_each, both_kept, every_bare_qform, free_vars_bare, plain_bare, plain_qform_bare}
+use Rattle.syn_form.specs.Quantified.{bare_qform}
+use Rattle.syn_form.specs.Trees.{FormTree, QFormTree, bare_form}
+use Rattle.syn_form.proofs.BareFacts.{binders_bare, both_and, both_each, both_kept, every_bare_qform, free_vars_bare, plain_bare, plain_qform_bare}
 use Rattle.syn_form.proofs.BareVars.{form_vars_bare}
 use Rattle.syn_model.specs.declared.decl.Decl.{Decl}
 use Rattle.syn_model.specs.declared.spec_part.SpecPart.{SpecPart}
 use Rattle.syn_model.specs.declared.spec_part.SpecPart.TheVariants as part
 use Rattle.syn_model.specs.BareParts.{bare_part, bare_spec_tree}
-use Rattle.syn_model.specs.Clauses.{MayUse, UsesTerm}
+use Rattle.syn_model.specs.Clauses.{UsesTerm}
 use Rattle.syn_model.specs.Declaring.{IsOtherwiseFree}
 use Rattle.syn_model.specs.Heads.{program_id}
 use Rattle.syn_model.specs.Specifications.{AsksPart, ComesNext, HasEnsures, MayEnsure, MayExtend, MayRequire, SpecTree, UsesQForm, UsesQFormNode, line_place, output_var, with_part}

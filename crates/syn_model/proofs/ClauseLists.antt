@@ -1,10 +1,8 @@
 -- The clauses and measures that are found by a name, with one declaration more, and where nothing has the name.
-use Rattle.std.proofs.Common.{◌≡◌, ◌≢◌, ◌⊎◌, inl, inr, ℕ, Bool, true, false, List, [], ◌∷◌, ◌++◌, All, Contains, Option, Some, None, fold, length, map, if◌then◌else◌, append-nil, append_assoc, refl, sym, ap, subst, ◌∙◌, true≢false}
-use Rattle.std.specs.List.{flat_map}
+use Rattle.std.proofs.Common.{◌≡◌, ◌≢◌, ℕ, Bool, true, false, List, [], ◌∷◌, ◌++◌, All, Contains, Option, Some, None, fold, map, if◌then◌else◌, append-nil, append_assoc, refl, sym, ap, subst, ◌∙◌}
 use Rattle.std.specs.Str.{bytes_eq}
 use Rattle.std.proofs.lemmas.List.{map-append}
 use Rattle.std.proofs.lemmas.List.Elements.{All-append, All-cons, All-head, All-nil, All-tail, Contains-append_left, Contains-append_right}
-use Rattle.std.proofs.lemmas.Grind.{flat_map-append}
 use Rattle.std.proofs.lemmas.Bool.{false_from_ne_true}
 use Rattle.std.proofs.lemmas.Slice.Eq.{bytes_eq-Decides}
 use Rattle.syn_term.specs.declared.sorts.Sym.{Sym}
@@ -13,10 +11,10 @@ use Rattle.syn_term.specs.Terms.{TermTree}
 use Rattle.syn_form.proofs.Lists.{Contains-head}
 use Rattle.syn_model.specs.declared.decl.Decl.{Decl}
 use Rattle.syn_model.specs.declared.decl.Decl.TheVariants as decl
-use Rattle.syn_model.specs.Clausal.{Clause, heading_after_decl, measure_in, measures_of, picked_under}
+use Rattle.syn_model.specs.Clausal.{heading_after_decl, measure_in, measures_of, picked_under}
 use Rattle.syn_model.specs.Headings.{Heading, heading_after, heading_of}
 use Rattle.syn_model.specs.Tables.{fun_symbol, order_symbol, rel_symbol, table_after, table_of}
-use Rattle.syn_model.proofs.GrowingTables.{after_grows, all_grow}
+use Rattle.syn_model.proofs.GrowingTables.{all_grow}
 
 abbrev pub heading_name : Option Decl → List ℕ
 heading_name (Some (decl.Fun name args result)) = name

@@ -1,5 +1,5 @@
 -- The arguments of a clause on values of their sorts: which values its variables have, and when the arguments fit.
-use Rattle.std.proofs.Common.{◌≡◌, ◌⊎◌, inl, inr, ℕ, zero, suc, ◌+◌, ◌≤◌, ◌<◌, Bool, true, false, List, [], ◌∷◌, ◌++◌, All, Contains, Option, Some, None, map, length, length-append, slice_get, get_or, refl, sym, ap, ap₂, subst, subst₂, ◌∙◌, append_assoc, arith}
+use Rattle.std.proofs.Common.{◌≡◌, ℕ, zero, suc, ◌+◌, List, [], ◌∷◌, ◌++◌, All, Option, Some, None, map, length, length-append, slice_get, refl, sym, ap, ap₂, subst, subst₂, ◌∙◌, append_assoc, arith}
 use Rattle.std.specs.List.{flat_map, range_with_len}
 use Rattle.std.specs.Option.{option_and_then, option_map, unwrap_or}
 use Rattle.std.proofs.lemmas.List.{length-map, map-append}
@@ -10,8 +10,6 @@ use Rattle.syn_term.specs.declared.sorts.Sort.{Sort}
 use Rattle.syn_term.specs.declared.sorts.Sym.{Sym}
 use Rattle.syn_term.specs.declared.sorts.SymId.{SymId}
 use Rattle.syn_term.specs.declared.sorts.Var.{Var}
-use Rattle.syn_term.specs.declared.term.Place.{Place}
-use Rattle.syn_term.specs.declared.term.Node.TheVariants as node
 use Rattle.syn_term.specs.declared.term.Node.TheViews as view
 use Rattle.syn_term.specs.Symbols.{SymbolTable, symbol_at}
 use Rattle.syn_term.specs.Terms.{IsApplication, TermTree, args_of, head_of, sort_of}
@@ -27,11 +25,11 @@ use Rattle.syn_value.specs.Values.{OfSort}
 use Rattle.syn_model.specs.declared.patterns.Pattern.{Pattern}
 use Rattle.syn_model.specs.Calls.{fitting, numbered_values, parts_by, taken_apart}
 use Rattle.syn_model.specs.Clauses.{HasArguments, IsVariable, last_var}
-use Rattle.syn_model.specs.Headings.{pattern_at, patterns_from, patterns_of}
+use Rattle.syn_model.specs.Headings.{pattern_at, patterns_from}
 use Rattle.syn_model.specs.Truth.{OfSorts}
 use Rattle.syn_model.proofs.BareClauses.{args-App, head-App, head-Var}
 use Rattle.syn_model.proofs.Over.{application_vars}
-use Rattle.syn_model.proofs.SortedValues.{AllMade, IsMade, IsMadeAs, last_value, made_at, taken_fits}
+use Rattle.syn_model.proofs.SortedValues.{AllMade, IsMadeAs, last_value, made_at, taken_fits}
 
 -- what two lists are that were put together
 pub record Appended {A : Type 0} (o p : Option (List A)) (ws : List A) : Type 0 where

@@ -1,5 +1,5 @@
 -- What is given for some bound on the nesting, and is as it should be; and how such results are put together.
-use Rattle.std.proofs.Common.{◌≡◌, ℕ, ◌+◌, Bool, List, [], ◌∷◌, Option, Some, None, refl, sym, ap, subst, ◌∙◌, arith}
+use Rattle.std.proofs.Common.{◌≡◌, ℕ, ◌+◌, List, ◌∷◌, Option, Some, ap, subst, ◌∙◌, arith}
 use Rattle.std.specs.Option.{option_and_then, option_map}
 use Rattle.syn_model.specs.Evaluation.{Counted, after, one_first, with_turns}
 use Rattle.syn_model.proofs.KeptReadings.{Keeps}

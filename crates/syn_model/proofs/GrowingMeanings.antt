@@ -1,5 +1,5 @@
 -- What is given by declarations and a program, is given too where there are more of them.
-use Rattle.std.proofs.Common.{◌≡◌, ℕ, zero, suc, ◌+◌, Bool, List, [], ◌∷◌, ◌++◌, All, Option, Some, None, length, take, drop, append-nil, refl, sym, ap, subst, ◌∙◌}
+use Rattle.std.proofs.Common.{◌≡◌, ℕ, zero, suc, List, [], ◌∷◌, ◌++◌, All, Option, Some, None, length, take, drop, append-nil, refl, sym, ap, subst, ◌∙◌}
 use Rattle.std.specs.Option.{option_and_then, option_map}
 use Rattle.std.proofs.lemmas.List.Elements.{All-head, All-tail}
 use Rattle.syn_term.specs.declared.sorts.Kind.{Kind}
@@ -9,11 +9,10 @@ use Rattle.syn_term.specs.declared.sorts.SymId.{SymId}
 use Rattle.syn_term.specs.Symbols.{IsPrefix, SymbolTable, symbol_at}
 use Rattle.syn_term.specs.Terms.{TermTree}
 use Rattle.syn_term.proofs.SymbolLaws.{IsPrefix-refl, symbol_at-IsPrefix}
-use Rattle.syn_form.specs.Trees.{FormTree, OutTree}
 use Rattle.syn_value.specs.declared.tree.ValueTree.{ValueTree}
 use Rattle.syn_model.specs.Calls.{Chosen, Meaning, by_function, by_measure, by_relation, chosen, first_of, fitting, half, input_value, numbered_values, or_else, reading_at, reading_over, smaller_values, truth_by, value_by}
 use Rattle.syn_model.specs.Clausal.{Clause, function_clauses, measures_of, relation_clauses}
-use Rattle.syn_model.specs.Evaluation.{Counted, Reading, after, evaluate_out, evaluate_term, free, with_turns}
+use Rattle.syn_model.specs.Evaluation.{Reading, after, evaluate_out, evaluate_term, free, with_turns}
 use Rattle.syn_model.proofs.KeptReadings.{IsPart, Keeps, form_kept, keeps_along, keeps_map, keeps_none, keeps_same, keeps_then, out_kept, term_kept}
 
 -- clauses, and those with more behind them, where each fits the same values by either table

@@ -1,6 +1,6 @@
 -- The table of a theory is well formed; it begins the table of each theory with more declarations, where values are of the sorts that
 -- they were of.
-use Rattle.std.proofs.Common.{◌≡◌, ◌<◌, ◌≤◌, ℕ, zero, suc, Bool, true, false, ◌&&◌, List, [], ◌∷◌, ◌++◌, All, Option, Some, None, fold, get_or, length, map, slice_get, refl, sym, ap, ap₂, subst, ◌∙◌, arith}
+use Rattle.std.proofs.Common.{◌≡◌, Bool, ◌&&◌, List, [], ◌∷◌, ◌++◌, All, Option, Some, None, fold, get_or, length, map, slice_get, refl, sym, ap, ap₂, subst, ◌∙◌, arith}
 use Rattle.std.specs.List.{list_all}
 use Rattle.std.specs.Option.{option_map}
 use Rattle.std.proofs.lemmas.List.Elements.{All-head, All-tail}
@@ -13,7 +13,7 @@ use Rattle.syn_term.specs.declared.sorts.Sort.{Sort}
 use Rattle.syn_term.specs.declared.sorts.Sort.TheVariants as sort
 use Rattle.syn_term.specs.declared.sorts.SymId.{SymId}
 use Rattle.syn_term.specs.DeclaredSorts.{IsShapeAt, IsTable, shape_of_sort}
-use Rattle.syn_term.specs.Symbols.{IsPrefix, IsSort, IsSortBelow, SymbolTable, first_symbols}
+use Rattle.syn_term.specs.Symbols.{IsPrefix, IsSort, SymbolTable, first_symbols}
 use Rattle.syn_term.proofs.SymbolLaws.{IsPrefix-refl, IsPrefix-trans, IsPrefix-with_list, IsPrefix-with_symbol, IsPrefix-with_tuple, below_more, slice_get-append}
 use Rattle.syn_term.proofs.TableLaws.{table_added, table_first, table_list, table_tuple}
 use Rattle.syn_value.specs.declared.tree.ValueTree.{ValueTree}

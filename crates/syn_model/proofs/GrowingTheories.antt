@@ -1,5 +1,5 @@
 -- What the symbols of a theory give, they give where it has more declarations.
-use Rattle.std.proofs.Common.{◌≡◌, ℕ, Bool, true, false, List, [], ◌∷◌, ◌++◌, All, IfSome, Option, Some, None, if◌then◌else◌, refl, sym, ap, subst, ◌∙◌}
+use Rattle.std.proofs.Common.{◌≡◌, ℕ, List, [], ◌∷◌, ◌++◌, All, IfSome, Option, Some, None, if◌then◌else◌, refl, sym, ap, subst, ◌∙◌}
 use Rattle.std.specs.Option.{option_and_then, option_map}
 use Rattle.std.specs.Str.{bytes_eq}
 use Rattle.std.proofs.lemmas.Grind.{flat_map-append}
@@ -11,7 +11,6 @@ use Rattle.syn_term.specs.declared.sorts.Kind.TheVariants as kind
 use Rattle.syn_term.specs.declared.sorts.Sort.{Sort}
 use Rattle.syn_term.specs.declared.sorts.Sym.{Sym}
 use Rattle.syn_term.specs.declared.sorts.SymId.{SymId}
-use Rattle.syn_term.specs.declared.term.Node.TheVariants as node
 use Rattle.syn_term.specs.declared.term.Node.TheViews as view
 use Rattle.syn_term.specs.DeclaredSorts.{IsTable}
 use Rattle.syn_term.specs.Symbols.{IsPrefix, IsSort, SymbolTable, symbol_at}
@@ -21,23 +20,21 @@ use Rattle.syn_form.specs.Plain.{IsSorted}
 use Rattle.syn_form.proofs.SortedTerms.{application_sorted}
 use Rattle.syn_form.proofs.TermNodes.{by_term_cases}
 use Rattle.syn_value.specs.declared.tree.ValueTree.{ValueTree, out-ValueTree}
-use Rattle.syn_value.specs.Values.{OfSort}
 use Rattle.syn_model.specs.declared.decl.Decl.{Decl}
 use Rattle.syn_model.specs.declared.decl.Decl.TheVariants as decl
-use Rattle.syn_model.specs.Calls.{Meaning, fitting, input_value, parts_by, reading_at, taken_apart}
+use Rattle.syn_model.specs.Calls.{Meaning, fitting, parts_by, taken_apart}
 use Rattle.syn_model.specs.Clausal.{Clause, function_clause, function_clauses, measure_in, measures_of, relation_clause, relation_clauses}
 use Rattle.syn_model.specs.Declaring.{Asks, IsTheory, nothing, one_more}
 use Rattle.syn_model.specs.Headings.{heading_of}
 use Rattle.syn_model.specs.Tables.{table_of}
-use Rattle.syn_model.specs.Truth.{OfSorts, theory_meaning}
+use Rattle.syn_model.specs.Truth.{theory_meaning}
 use Rattle.syn_model.proofs.BareClauses.{head-App, head-Var}
 use Rattle.syn_model.proofs.ClauseLists.{heading_name, picked_all, picked_more}
-use Rattle.syn_model.proofs.Given.{Given}
-use Rattle.syn_model.proofs.GrowingMeanings.{AreFront, Grows, grown_part}
-use Rattle.syn_model.proofs.GrowingTables.{is_table, next_grows, sort_kept}
+use Rattle.syn_model.proofs.GrowingMeanings.{Grows, grown_part}
+use Rattle.syn_model.proofs.GrowingTables.{next_grows, sort_kept}
 use Rattle.syn_model.proofs.KeptReadings.{keeps_same}
-use Rattle.syn_model.proofs.SortedEvaluation.{GivesOn, IsAny}
-use Rattle.syn_model.proofs.SortedValues.{IsMade, IsMadeAs, made_at, made_of}
+use Rattle.syn_model.proofs.SortedEvaluation.{GivesOn}
+use Rattle.syn_model.proofs.SortedValues.{IsMadeAs, made_at, made_of}
 
 -- what stands at the top of an argument is a variable or a symbol of the table
 abbrev pub IsKnownTop : SymbolTable → Head → Type 0

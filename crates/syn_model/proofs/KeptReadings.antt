@@ -1,16 +1,13 @@
 -- What symbols give by one reading, they give by another: then so do terms, formulas and outputs.
-use Rattle.std.proofs.Common.{◌≡◌, ℕ, zero, suc, ◌+◌, Bool, true, false, not, List, [], ◌∷◌, All, Option, Some, None, map, length, take, drop, if◌then◌else◌, refl, sym, ap, subst, ◌∙◌, arith}
+use Rattle.std.proofs.Common.{◌≡◌, Bool, true, false, not, List, [], ◌∷◌, All, Option, Some, None, map, if◌then◌else◌, refl, sym, ap, ◌∙◌}
 use Rattle.std.specs.List.{list_all, list_any}
 use Rattle.std.specs.Option.{option_and_then, option_map}
 use Rattle.std.proofs.lemmas.List.Elements.{All-head, All-tail}
-use Rattle.syn_term.specs.declared.sorts.Kind.{Kind}
-use Rattle.syn_term.specs.declared.sorts.Kind.TheVariants as kind
 use Rattle.syn_term.specs.declared.sorts.SymId.{SymId}
 use Rattle.syn_term.specs.declared.sorts.Var.{Var}
 use Rattle.syn_term.specs.declared.term.Place.{Place}
 use Rattle.syn_term.specs.declared.term.Node.TheVariants as node
 use Rattle.syn_term.specs.declared.term.Node.TheViews as node_view
-use Rattle.syn_term.specs.Symbols.{symbol_at}
 use Rattle.syn_term.specs.Terms.{TermTree}
 use Rattle.syn_form.specs.declared.trees.Form.TheVariants as form
 use Rattle.syn_form.specs.declared.trees.Form.TheViews as form_view
@@ -19,8 +16,6 @@ use Rattle.syn_form.specs.Trees.{FormTree, OutTree}
 use Rattle.syn_form.proofs.Induction.{by_forms, by_outs}
 use Rattle.syn_form.proofs.TermNodes.{by_term_cases}
 use Rattle.syn_value.specs.declared.tree.ValueTree.{ValueTree}
-use Rattle.syn_model.specs.Calls.{Meaning, by_function, by_measure, by_relation, call_of, chosen, first_of, half, numbered_values, reading_at, reading_over, smaller_values, truth_by, value_by}
-use Rattle.syn_model.specs.Clausal.{function_clauses, measures_of, relation_clauses}
 use Rattle.syn_model.specs.Evaluation.{Counted, Environment, Reading, after, are_same, evaluate_form, evaluate_out, evaluate_term, free, implies, on_all, one_first, together, with_turns}
 use Rattle.syn_model.proofs.EvaluationEquations.{evaluate_form-And, evaluate_form-Atom, evaluate_form-Equal, evaluate_form-False, evaluate_form-Implies, evaluate_form-Not, evaluate_form-Or, evaluate_form-True, evaluate_out-Give, evaluate_out-If, evaluate_term-App, evaluate_term-Var}
 

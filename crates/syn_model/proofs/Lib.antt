@@ -50,3 +50,4 @@ pub mod GrowingTheories
 pub mod OrdersGiving
 pub mod AlwaysGiving
 pub mod SymbolsGive
+pub mod StableTruth

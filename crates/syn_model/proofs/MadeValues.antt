@@ -1,5 +1,5 @@
 -- Constructors give a value of their sort on all values of the sorts of their arguments.
-use Rattle.std.proofs.Common.{◌≡◌, ℕ, zero, suc, ◌+◌, Bool, true, List, [], ◌∷◌, Option, Some, None, map, refl, sym, ap, subst, subst₂, ◌∙◌}
+use Rattle.std.proofs.Common.{◌≡◌, ℕ, zero, suc, ◌+◌, Bool, List, [], ◌∷◌, Option, Some, None, map, refl, sym, ap, subst, ◌∙◌}
 use Rattle.std.specs.Option.{option_and_then}
 use Rattle.std.specs.List.{list_all}
 use Rattle.syn_term.specs.declared.sorts.Kind.{Kind}
@@ -17,10 +17,10 @@ use Rattle.syn_value.specs.declared.tree.ValueTree.TheViews as view
 use Rattle.syn_value.specs.Values.{OfSort, is_of_sort, number_of}
 use Rattle.syn_value.proofs.SameValues.{out-List}
 use Rattle.syn_value.proofs.Trees.{number_of-Num}
-use Rattle.syn_model.specs.Calls.{Meaning, constructed, list_with, number_after, reading_at, reading_over, value_by}
-use Rattle.syn_model.specs.Evaluation.{Counted, Reading, after, free}
+use Rattle.syn_model.specs.Calls.{Meaning, constructed, list_with, number_after, reading_at, value_by}
+use Rattle.syn_model.specs.Evaluation.{Counted, Reading}
 use Rattle.syn_model.specs.Truth.{OfSorts}
-use Rattle.syn_model.proofs.Given.{Given, given_always}
+use Rattle.syn_model.proofs.Given.{given_always}
 use Rattle.syn_model.proofs.SortedEvaluation.{GivesOn}
 use Rattle.syn_model.proofs.SortedValues.{AllMade, IsMadeAs, list_of_items, list_value, made_at, number_of_sort, number_value, tuple_of_parts}
 

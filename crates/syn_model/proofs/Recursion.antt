@@ -1,6 +1,6 @@
 -- A symbol whose clauses are all there gives something on all values of its sorts, where the bodies of its clauses do: its recursion
 -- goes down to smaller values.
-use Rattle.std.proofs.Common.{◌≡◌, ◌⊎◌, inl, inr, ℕ, zero, suc, ◌+◌, ◌<◌, ◌≤◌, Bool, true, false, ◌&&◌, List, [], ◌∷◌, All, Option, Some, None, map, nat_eq, length, slice_get, if◌then◌else◌, refl, sym, ap, subst, ◌∙◌, arith}
+use Rattle.std.proofs.Common.{◌≡◌, inl, inr, ℕ, zero, suc, ◌+◌, ◌<◌, Bool, true, false, ◌&&◌, List, [], ◌∷◌, All, Option, Some, None, map, nat_eq, length, slice_get, if◌then◌else◌, refl, sym, ap, subst, ◌∙◌, arith}
 use Rattle.std.specs.List.{flat_map}
 use Rattle.std.specs.Option.{option_and_then, option_map}
 use Rattle.std.proofs.lemmas.Bool.Decides.{nat_tests}
@@ -15,20 +15,19 @@ use Rattle.syn_term.specs.declared.sorts.Var.{Var}
 use Rattle.syn_term.specs.Symbols.{SymbolTable, symbol_at}
 use Rattle.syn_term.specs.Terms.{TermTree, head_of}
 use Rattle.syn_form.specs.Trees.{term_vars}
-use Rattle.syn_form.proofs.Sorting.{both_true}
 use Rattle.syn_value.specs.declared.tree.ValueTree.{ValueTree, out-ValueTree}
 use Rattle.syn_value.specs.Values.{OfSort}
 use Rattle.syn_model.specs.declared.patterns.Pattern.{Pattern}
 use Rattle.syn_model.specs.declared.patterns.Role.{Role}
 use Rattle.syn_model.specs.declared.patterns.Role.TheVariants as role
 use Rattle.syn_model.specs.declared.uses.Rest.{Rest}
-use Rattle.syn_model.specs.Calls.{Chosen, Meaning, chosen, fitting, numbered_values, or_else, parts_by, reading_at, taken_apart}
+use Rattle.syn_model.specs.Calls.{Chosen, chosen, fitting, numbered_values, or_else, parts_by, taken_apart}
 use Rattle.syn_model.specs.Clausal.{Clause}
 use Rattle.syn_model.specs.Clauses.{HasArguments, begins_with, first_turn, go_together, last_var, rest_at, second_turn, turn_of}
-use Rattle.syn_model.specs.Evaluation.{Counted, Environment, Reading, after, with_turns}
+use Rattle.syn_model.specs.Evaluation.{Counted, Environment, after, with_turns}
 use Rattle.syn_model.specs.Headings.{are_all, is_only, one_suffices, patterns_of, role_of, role_of_kind}
 use Rattle.syn_model.specs.Truth.{OfSorts}
-use Rattle.syn_model.proofs.FittingArguments.{AreFlat, AtTop, PatternAt, at_top, fits_plain, flat_at, flat_length, flat_of, last_read, numbered_read, of_sorts_at, of_sorts_length, part_read, pattern_there, sorts_read, values_fit, var_sort}
+use Rattle.syn_model.proofs.FittingArguments.{at_top, fits_plain, flat_at, flat_length, flat_of, last_read, numbered_read, of_sorts_at, of_sorts_length, part_read, pattern_there, sorts_read, values_fit, var_sort}
 use Rattle.syn_model.proofs.Given.{Given}
 use Rattle.syn_model.proofs.SortedValues.{AllMade, IsMadeAs, IsOneOf, Shrinks, last_value, made_at, only_kind, tuple_apart, two_apart, weight}
 

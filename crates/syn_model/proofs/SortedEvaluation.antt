@@ -1,11 +1,10 @@
 -- Sorted terms, formulas and outputs are evaluated to something of their sort, where the symbols that they may use give something.
-use Rattle.std.proofs.Common.{◌≡◌, ◌↔◌, ◌⊎◌, inl, inr, ℕ, zero, suc, ◌+◌, Bool, true, false, not, ◌||◌, IsTrue, List, [], ◌∷◌, All, Option, Some, None, map, length, nat_eq, slice_get, if◌then◌else◌, refl, sym, ap, ap₂, subst, ◌∙◌, true≢false, arith}
+use Rattle.std.proofs.Common.{◌≡◌, ◌⊎◌, inl, inr, ℕ, zero, suc, ◌+◌, Bool, true, false, not, ◌||◌, List, [], ◌∷◌, All, Option, Some, None, map, length, nat_eq, slice_get, if◌then◌else◌, refl, sym, ap, ap₂, subst, ◌∙◌, true≢false, arith}
 use Rattle.std.specs.List.{list_all, list_any}
 use Rattle.std.specs.Option.{option_and_then, option_map}
 use Rattle.std.proofs.lemmas.Bool.Decides.{nat_tests}
 use Rattle.std.proofs.lemmas.Option.{get_or_from_slice_get, slice_get_within}
 use Rattle.std.proofs.lemmas.List.Elements.{All-cons, All-head, All-nil, All-tail}
-use Rattle.syn_term.specs.declared.sorts.Head.{Head}
 use Rattle.syn_term.specs.declared.sorts.Head.TheVariants as head
 use Rattle.syn_term.specs.declared.sorts.Kind.{Kind}
 use Rattle.syn_term.specs.declared.sorts.Kind.TheVariants as kind
@@ -16,7 +15,7 @@ use Rattle.syn_term.specs.declared.sorts.Var.{Var}
 use Rattle.syn_term.specs.declared.term.Place.{Place}
 use Rattle.syn_term.specs.declared.term.Node.TheVariants as node
 use Rattle.syn_term.specs.declared.term.Node.TheViews as node_view
-use Rattle.syn_term.specs.Symbols.{FitsResult, SymbolTable, symbol_at}
+use Rattle.syn_term.specs.Symbols.{FitsResult, symbol_at}
 use Rattle.syn_term.specs.DeclaredSorts.{IsTable}
 use Rattle.syn_term.proofs.Trees.{same_symbol}
 use Rattle.syn_term.specs.Terms.{IsApplication, TermTree, head_of, sort_of}
@@ -24,7 +23,7 @@ use Rattle.syn_form.specs.declared.trees.Form.TheVariants as form
 use Rattle.syn_form.specs.declared.trees.Form.TheViews as form_view
 use Rattle.syn_form.specs.declared.trees.Out.TheVariants as out
 use Rattle.syn_form.specs.declared.trees.Out.TheViews as out_view
-use Rattle.syn_form.specs.Plain.{IsAtom, IsFormed, IsFormedOut, IsKnownSort, IsSorted, given_sort, given_sort_step, result_of}
+use Rattle.syn_form.specs.Plain.{IsAtom, IsFormed, IsFormedOut, IsSorted, given_sort, given_sort_step}
 use Rattle.syn_form.specs.Trees.{FormTree, OutTree, form_vars, out_vars, term_vars}
 use Rattle.syn_form.proofs.Chains.{IsChain}
 use Rattle.syn_form.proofs.Equations.{fold-Give, fold-If}
@@ -38,7 +37,7 @@ use Rattle.syn_value.specs.Values.{OfSort, same_value}
 use Rattle.syn_model.specs.declared.uses.Rest.{Rest}
 use Rattle.syn_model.specs.Calls.{Meaning, reading_at}
 use Rattle.syn_model.specs.Clauses.{MayUse, UsesForm, UsesOut, UsesTerm}
-use Rattle.syn_model.specs.Evaluation.{Counted, Environment, Reading, after, are_same, evaluate_form, evaluate_out, evaluate_term, free, implies, on_all, together}
+use Rattle.syn_model.specs.Evaluation.{Counted, Environment, after, are_same, evaluate_form, evaluate_out, evaluate_term, free, implies, on_all, together}
 use Rattle.syn_model.specs.Truth.{OfSorts}
 use Rattle.syn_model.proofs.BareClauses.{head-App, head-Var}
 use Rattle.syn_model.proofs.DeeperCalls.{deeper, form_deeper, out_deeper, term_deeper}

@@ -1,5 +1,5 @@
 -- The values of a sort, by how they are built, and what the constructors of a table make and take apart.
-use Rattle.std.proofs.Common.{◌≡◌, ◌⊎◌, inl, inr, ℕ, zero, suc, ◌+◌, ◌<◌, Bool, true, false, ◌&&◌, IsTrue, List, [], ◌∷◌, ◌++◌, All, Option, Some, None, fold, map, length, slice_get, refl, sym, ap, subst, subst₂, ◌∙◌, true≢false, arith}
+use Rattle.std.proofs.Common.{◌≡◌, ◌⊎◌, inl, inr, ℕ, zero, suc, ◌<◌, Bool, IsTrue, List, [], ◌∷◌, ◌++◌, All, Option, Some, None, fold, map, length, slice_get, refl, sym, ap, subst, subst₂, ◌∙◌, true≢false, arith}
 use Rattle.std.specs.List.{list_all}
 use Rattle.std.specs.Option.{option_map}
 use Rattle.std.proofs.lemmas.List.Elements.{All-append, All-cons, All-nil, All-weaker}
@@ -15,7 +15,6 @@ use Rattle.syn_term.specs.declared.sorts.Sym.{Sym}
 use Rattle.syn_term.specs.declared.sorts.SymId.{SymId}
 use Rattle.syn_term.specs.Symbols.{SymbolTable, first_symbols, succ_symbol, symbol_at, with_symbol, zero_symbol}
 use Rattle.syn_term.specs.DeclaredSorts.{cons_symbol, list_sort, make_symbol, next_sort, next_symbol, nil_symbol, shape_of_sort, tuple_sort, with_sort}
-use Rattle.syn_term.proofs.SymbolLaws.{slice_get-append}
 use Rattle.syn_form.proofs.Sorting.{and_true, both_true}
 use Rattle.syn_value.specs.declared.tree.ValueTree.{ValueTree, out-ValueTree}
 use Rattle.syn_value.specs.declared.tree.ValueTree.TheOpen.{ValueTree-F}
@@ -24,12 +23,11 @@ use Rattle.syn_value.specs.declared.tree.ValueTree.TheViews as view
 use Rattle.syn_value.specs.Values.{OfSort, fits_shape, is_of_sort, parts_fit}
 use Rattle.syn_value.proofs.SameValues.{out-List, out-Num, out-Tuple}
 use Rattle.syn_value.proofs.SortCases.{of_List, of_Num, of_Tuple}
-use Rattle.syn_value.proofs.Trees.{With, by_values, tree_of}
+use Rattle.syn_value.proofs.Trees.{by_values, tree_of}
 use Rattle.syn_model.specs.declared.decl.Decl.{Decl}
 use Rattle.syn_model.specs.declared.decl.Decl.TheVariants as decl
 use Rattle.syn_model.specs.declared.patterns.Role.TheVariants as role
-use Rattle.syn_model.specs.Calls.{constructed, taken_apart}
-use Rattle.syn_model.specs.Evaluation.{Counted}
+use Rattle.syn_model.specs.Calls.{taken_apart}
 use Rattle.syn_model.specs.Headings.{role_of_kind}
 use Rattle.syn_model.specs.Tables.{fun_symbol, order_symbol, rel_symbol, table_after, table_of}
 use Rattle.syn_model.specs.Truth.{OfSorts}

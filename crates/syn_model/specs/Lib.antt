@@ -14,3 +14,4 @@ pub mod Calls
 pub mod Truth
 pub mod Correctness
 pub mod Totality
+pub mod Stability
