@@ -34,16 +34,16 @@ use Rattle.syn_model.specs.Headings.{are_all, one_suffices, pattern_at, patterns
 out-Var : (p : Place) (v : Var) → out-Node (node.Var p v) ≡ Node-F.Var p v
 out-Var p v = search (rules, the_lemmas)
 
-head-Var : (p : Place) (v : Var) → head_of (node.Var p v) ≡ head.Var v
+pub head-Var : (p : Place) (v : Var) → head_of (node.Var p v) ≡ head.Var v
 head-Var p v = let e : out-Node (node.Var p v) ≡ Node-F.Var p v = out-Var p v in rw e refl
 
-head-App : (p : Place) (f : SymId) (args : List TermTree) → head_of (view.App p f args) ≡ head.Sym f
+pub head-App : (p : Place) (f : SymId) (args : List TermTree) → head_of (view.App p f args) ≡ head.Sym f
 head-App p f args = let e : out-Node (view.App p f args) ≡ Node-F.App p f args = out-App p f args in rw e refl
 
 args-Var : (p : Place) (v : Var) → args_of (node.Var p v) ≡ []
 args-Var p v = let e : out-Node (node.Var p v) ≡ Node-F.Var p v = out-Var p v in rw e refl
 
-args-App : (p : Place) (f : SymId) (args : List TermTree) → args_of (view.App p f args) ≡ args
+pub args-App : (p : Place) (f : SymId) (args : List TermTree) → args_of (view.App p f args) ≡ args
 args-App p f args = let e : out-Node (view.App p f args) ≡ Node-F.App p f args = out-App p f args in rw e refl
 
 -- what stands at the top is as it was

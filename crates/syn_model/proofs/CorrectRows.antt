@@ -1,5 +1,5 @@
 -- For the condition that the output is the input: the program that gives its input back is correct, and the one that gives 0 isn't.
-use Rattle.std.proofs.Common.{◌≡◌, ℕ, zero, suc, Bool, List, [], ◌∷◌, Some, codes, refl, sym, ap, subst, ◌∙◌}
+use Rattle.std.proofs.Common.{◌≡◌, ℕ, zero, suc, Bool, List, [], ◌∷◌, Option, Some, codes, refl, sym, ap, subst, ◌∙◌}
 use Rattle.std.proofs.lemmas.List.Elements.{All-cons, All-head, All-nil}
 use Rattle.syn_term.specs.declared.sorts.Sort.{Sort}
 use Rattle.syn_term.specs.declared.sorts.Sort.TheVariants.{Nat}
@@ -95,7 +95,7 @@ one_result : {A : Type 0} (c d : Counted A) → Some c ≡ Some d → c.result �
 one_result c d e = let h : c ≡ d = cc in ap (λ z. z.result) h
 
 numbers_apart : (v : ValueTree) → tree.Num 0 ≡ v → tree.Num 1 ≡ v → ⊥
-numbers_apart v a b = let h : Some 0 ≡ Some 1 = sym (number_of-Num 0) ∙ (ap number_of (a ∙ sym b) ∙ number_of-Num 1) in cc
+numbers_apart v a b = let h : ◌≡◌ {A = Option ℕ} (Some 0) (Some 1) = sym (number_of-Num 0) ∙ (ap number_of (a ∙ sym b) ∙ number_of-Num 1) in cc
 
 abbrev zero_result : Environment
 zero_result = read_as (numbered_values []) 0 (tree.Num 0)

@@ -1,17 +1,15 @@
 -- For public contracts: what the symbols of a theory and a program give on values. The number n bounds how deep calls nest, and
 -- nothing is given where they nest deeper.
-use Rattle.std.specs.Prelude.{ℕ, zero, suc, Bool, ◌+◌, ◌-◌, List, [], ◌∷◌, ◌++◌, Option, None, Some, length, map, take, drop, nat_lt, nat_eq, slice_get, if◌then◌else◌}
+use Rattle.std.specs.Prelude.{ℕ, zero, suc, Bool, ◌+◌, ◌-◌, List, [], ◌∷◌, ◌++◌, Option, None, Some, length, take, drop, nat_lt, slice_get}
 use Rattle.std.specs.Option.{option_and_then, option_map, unwrap_or}
 use Rattle.syn_term.specs.declared.sorts.Head.{Head}
 use Rattle.syn_term.specs.declared.sorts.Head.TheVariants as head
 use Rattle.syn_term.specs.declared.sorts.Kind.{Kind}
 use Rattle.syn_term.specs.declared.sorts.Kind.TheVariants as kind
-use Rattle.syn_term.specs.declared.sorts.Sym.{Sym}
 use Rattle.syn_term.specs.declared.sorts.SymId.{SymId}
-use Rattle.syn_term.specs.declared.sorts.Var.{Var}
 use Rattle.syn_term.specs.Symbols.{SymbolTable, symbol_at}
 use Rattle.syn_term.specs.Terms.{TermTree, head_of}
-use Rattle.syn_form.specs.Trees.{FormTree, OutTree, term_vars}
+use Rattle.syn_form.specs.Trees.{FormTree, OutTree}
 use Rattle.syn_value.specs.declared.tree.ValueTree.{ValueTree, out-ValueTree}
 use Rattle.syn_value.specs.declared.tree.ValueTree.TheOpen.{ValueTree-F}
 use Rattle.syn_value.specs.declared.tree.ValueTree.TheVariants as tree

@@ -1,19 +1,13 @@
 -- For public contracts: what it is for a program to be correct for a specification.
-use Rattle.std.specs.Prelude.{◌≡◌, ◌⊎◌, ℕ, List, [], ◌∷◌, Option, None, Some, All, Any, Contains, length, map}
-use Rattle.syn_term.specs.declared.sorts.Kind.{Kind}
-use Rattle.syn_term.specs.declared.sorts.Kind.TheVariants as kind
-use Rattle.syn_term.specs.declared.sorts.Sym.{Sym}
-use Rattle.syn_term.specs.declared.sorts.SymId.{SymId}
-use Rattle.syn_term.specs.Symbols.{SymbolTable, symbol_at}
+use Rattle.std.specs.Prelude.{ℕ, List, [], None, Some, All}
 use Rattle.syn_form.specs.Quantified.{as_qform}
-use Rattle.syn_form.specs.Trees.{FormTree, OutTree, QFormTree}
+use Rattle.syn_form.specs.Trees.{OutTree}
 use Rattle.syn_value.specs.declared.tree.ValueTree.{ValueTree}
 use Rattle.syn_value.specs.Values.{OfSort}
 use Rattle.syn_model.specs.declared.decl.Decl.{Decl}
 use Rattle.syn_model.specs.declared.spec_part.SpecPart.{SpecPart}
 use Rattle.syn_model.specs.declared.spec_part.SpecPart.TheVariants as part
 use Rattle.syn_model.specs.Calls.{Meaning, call_of, numbered_values}
-use Rattle.syn_model.specs.Evaluation.{Counted, Environment}
 use Rattle.syn_model.specs.Heads.{sorts_of}
 use Rattle.syn_model.specs.Specifications.{SpecTree}
 use Rattle.syn_model.specs.Truth.{Gives, IsTrueIn, OfSorts, read_as}

@@ -14,3 +14,5 @@ pub mod Evaluation
 pub mod Calls
 pub mod Truth
 pub mod Correctness
+pub mod Totality
+pub mod Stability

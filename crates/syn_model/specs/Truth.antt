@@ -6,20 +6,18 @@ use Rattle.std.specs.List.{AllByRecursion}
 use Rattle.syn_term.specs.declared.sorts.Sort.{Sort}
 use Rattle.syn_term.specs.declared.sorts.Sym.{Sym}
 use Rattle.syn_term.specs.declared.sorts.SymId.{SymId}
-use Rattle.syn_term.specs.declared.sorts.Var.{Var}
 use Rattle.syn_term.specs.Symbols.{SymbolTable, symbol_at}
 use Rattle.syn_term.specs.Terms.{TermTree}
 use Rattle.syn_form.specs.declared.trees.Mono.{Mono}
-use Rattle.syn_form.specs.declared.trees.QForm.{QForm, rec-QForm}
+use Rattle.syn_form.specs.declared.trees.QForm.{rec-QForm}
 use Rattle.syn_form.specs.declared.trees.QForm.TheOpen.{QForm-F}
 use Rattle.syn_form.specs.Trees.{QFormTree}
 use Rattle.syn_value.specs.declared.tree.ValueTree.{ValueTree}
-use Rattle.syn_value.specs.declared.tree.ValueTree.TheVariants as tree
 use Rattle.syn_value.specs.Values.{OfSort}
 use Rattle.syn_model.specs.declared.decl.Decl.{Decl}
 use Rattle.syn_model.specs.declared.decl.Decl.TheVariants as decl
 use Rattle.syn_model.specs.Calls.{Meaning, numbered_values, reading_at}
-use Rattle.syn_model.specs.Evaluation.{Counted, Environment, Reading, evaluate_term, on_all}
+use Rattle.syn_model.specs.Evaluation.{Counted, Environment, evaluate_term, on_all}
 use Rattle.syn_model.specs.Tables.{table_of}
 
 -- something is given, in some number of turns

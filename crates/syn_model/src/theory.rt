@@ -7,6 +7,8 @@ ghost use Rattle.syn_model.specs.Declaring.{Asks, ComesInTime, IsTheory, MayDecl
 ghost use Rattle.syn_model.specs.Headings as headings;
 ghost use Rattle.syn_model.specs.Heads.{IsNewName};
 ghost use Rattle.syn_model.specs.Theories.{MayBring, Steps, bare_theory, with_decl};
+ghost use Rattle.syn_model.specs.Stability.{TruthIsStable};
+ghost use Rattle.syn_model.specs.Totality.{SymbolsAlwaysGive};
 ghost use Rattle.syn_model.specs.Tables.{IsDeclared, axiom_names, monos_of, other_names, table_of};
 ghost use Rattle.syn_model.specs.inner.Indexing.{IsNewIn, row_key};
 ghost use Rattle.syn_model.specs.inner.Keeping.{Settles};
@@ -205,9 +207,13 @@ impl Theory {
         is_declared(self, text)
     }
 
-    /// Whether no clause of the function or relation declared last is missing.
+    /// Whether no clause of the function or relation declared last is missing. Then each symbol of the theory gives a
+    /// result on all values of the sorts of its arguments: each case has a clause, and a recursion goes down the values.
+    /// So the truth of formulas is stable.
     pub fn is_whole(&self) -> bool
-        ensures { result ≡ headings.is_whole (self.now).decls }
+        ensures is { result ≡ headings.is_whole (self.now).decls }
+        ensures total { IsTrue result → SymbolsAlwaysGive (self.now).decls }
+        ensures stable { IsTrue result → TruthIsStable (self.now).decls }
     {
         is_whole(&self.syms, self.decls.as_slice())
     }
