@@ -4,6 +4,8 @@ use Rattle.std.specs.Option.{option_map, option_map_or}
 use Rattle.syn_term.specs.declared.sorts.Var.{Var}
 use Rattle.syn_term.specs.Symbols.{SymbolTable}
 use Rattle.syn_term.specs.Terms.{TermTree, bare, variable_tree}
+use Rattle.syn_term.specs.Same.{same_tree}
+use Rattle.syn_form.specs.Same.{same_form, same_out}
 use Rattle.syn_form.specs.Simplification.{simplified_form, simplified_out}
 use Rattle.syn_form.specs.Substitutions.{Substitution, image, substituted, substituted_form, substituted_out}
 use Rattle.syn_form.specs.Trees.{FormTree, OutTree, bare_form, bare_out, form_terms, out_terms}
@@ -18,6 +20,9 @@ use Rattle.syn_row.proofs.Renaming.{Within, back_by, substituted-blind, substitu
 use Rattle.syn_row.proofs.RowChanges.{changed_row, own_out, row_within, rows_after, rows_both, rows_same, rows_substituted}
 use Rattle.syn_row.proofs.Telling.{bare-twice, forms_told, outs_told, trees_told}
 use Rattle.syn_row.proofs.Variants.{substituted-along, variant_vars, variants-one, variants_along, variants_back}
+
+abbrev Any : TermTree → Type 0
+Any t = Unit {0}
 
 -- the numbering of a row renames its variables
 unfoldable pub numbering_renames : (r : RowTree) → IsRenaming (row_vars r) (numbering r)
@@ -68,6 +73,26 @@ simplified_row-renamed σ vars n r within =
     (substituted_out σ) (out_changes_substituted σ)
     (outs_told (substituted_form σ) (substituted_form τ) (substituted σ) (substituted τ) (changes_substituted σ) (changes_substituted τ) (substituted-blind σ) (substituted-blind τ) (Within vars) (substituted_back σ vars n) (substituted_out σ) (substituted_out τ) (out_changes_substituted σ) (out_changes_substituted τ))
     p (own_out (Within vars) (form_terms r.form) r.out p e within))
+
+-- simplification doesn't look at places
+pub simplified_row-bare : (r : RowTree) → simplified_row (bare_row r) ≡ bare_row (simplified_row r)
+simplified_row-bare r =
+    rows_both bare_form simplified_form simplified_form bare_form bare_out simplified_out simplified_out bare_out r
+    (simplified_changed bare_form bare changes_bare Any trees forms r.form (λ k d lt. tt))
+    (λ p e. simplified_out_changed bare_form bare changes_bare Any trees forms bare_out out_changes_bare outs p (λ k d lt. tt))
+  where
+    trees : (s t : TermTree) → Any s → Any t → same_tree (bare s) (bare t) ≡ same_tree s t
+    trees = trees_told bare_form (λ f. f) bare (λ t. t) changes_bare changes_none (λ t. ap bare (bare-twice t)) bare-twice Any (λ t h. bare-twice t)
+
+    forms : (f h : FormTree) → All Any (form_terms f) → All Any (form_terms h) → same_form (bare_form f) (bare_form h) ≡ same_form f h
+    forms = forms_told bare_form (λ f. f) bare (λ t. t) changes_bare changes_none (λ t. ap bare (bare-twice t)) bare-twice Any (λ t h. bare-twice t)
+
+    outs : (o p : OutTree) → All Any (out_terms o) → All Any (out_terms p) → same_out (bare_out o) (bare_out p) ≡ same_out o p
+    outs = outs_told bare_form (λ f. f) bare (λ t. t) changes_bare changes_none (λ t. ap bare (bare-twice t)) bare-twice Any (λ t h. bare-twice t) bare_out (λ o. o) out_changes_bare out_changes_none
+
+-- so a row that is one with a simplified row is simplified
+pub simplified-along : (r s : RowTree) → bare_row r ≡ bare_row s → IsSimplified s → IsSimplified r
+simplified-along r s e h = sym (simplified_row-bare r) ∙ (ap simplified_row e ∙ (simplified_row-bare s ∙ (h ∙ sym e)))
 
 -- a canonical row is simplified
 pub canonical_simplified : (r : RowTree) → simplified_row (canonical_row r) ≡ canonical_row r

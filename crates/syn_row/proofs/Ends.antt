@@ -14,11 +14,11 @@ use Rattle.syn_form.specs.Substitutions.{substituted, substituted_form, substitu
 use Rattle.syn_form.specs.Trees.{FormTree, OutTree, bare_form, bare_out, form_terms, form_nodes, out_nodes, out_terms}
 use Rattle.syn_form.proofs.Lists.{All-within}
 use Rattle.syn_form.proofs.SimplifiedTerms.{Among-append, simplified_form-terms, simplified_out-terms}
-use Rattle.syn_row.specs.Rows.{IsPlain, IsWithinRow, RowTree, bare_row, canonical_row, first_occurrences, numbered_from, renumbered_row, row_nodes, row_terms, row_vars, simplified_row, substituted_row}
+use Rattle.syn_row.specs.Rows.{IsPlain, IsSimplified, IsWithinRow, RowTree, bare_row, canonical_row, first_occurrences, numbered_from, renumbered_row, row_nodes, row_terms, row_vars, simplified_row, substituted_row}
 use Rattle.syn_row.specs.RowLaws.{CanonicalLaws}
 use Rattle.syn_row.specs.inner.Renumbering.{AreLike, IsFormedOutput, out_on_terms, renumbered, renumbered_form, renumbered_out}
 use Rattle.syn_row.proofs.Changes.{changes_alike, changes_on, changes_substituted, out_changes_alike, out_changes_on, out_changes_substituted}
-use Rattle.syn_row.proofs.CanonicalRows.{canonical_again, canonical_decides, canonical_simplified}
+use Rattle.syn_row.proofs.CanonicalRows.{canonical_again, canonical_decides, canonical_simplified, simplified-along, variants_renumbered}
 use Rattle.syn_row.proofs.Occurring.{occurs, occurs_first}
 use Rattle.syn_row.proofs.RowPlain.{canonical_plain, plain_along, plain_renumbered, plain_simplified}
 use Rattle.syn_row.proofs.RowSizes.{nodes-along, row_nodes-renumbered, within-along}
@@ -28,6 +28,7 @@ use Rattle.syn_row.proofs.Variants.{variant_laws}
 pub canonical_laws : CanonicalLaws
 canonical_laws = record {
   variants = variant_laws;
+  variant = λ r. variants_renumbered (simplified_row r);
   decides = canonical_decides;
   again = canonical_again;
   simplified = λ r. ap bare_row (canonical_simplified r);
@@ -91,6 +92,9 @@ module _ (r s q : RowTree) (is : s ≡ simplified_row r) (made : bare_row q ≡ 
 
   pub end_plain : (table : SymbolTable) → IsPlain table s → IsPlain table q
   end_plain table h = plain_along table q (renumbered_row s) made (plain_renumbered table s h)
+
+  pub end_simplified : IsSimplified q
+  end_simplified = simplified-along q (canonical_row r) canonical_is (ap bare_row (canonical_simplified r))
 
   pub end_within : IsWithinRow s → IsWithinRow q
   end_within h = within-along s q made h

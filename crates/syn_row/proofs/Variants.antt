@@ -65,6 +65,7 @@ variants_along r s t h k =
 pub variant_laws : VariantLaws
 variant_laws = record {
   itself = λ r. variants-one r r refl;
+  one = variants-one;
   back = variants_back;
   along = variants_along;
 }

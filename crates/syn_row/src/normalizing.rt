@@ -5,7 +5,7 @@ ghost use Rattle.syn_term.specs.Bank.{Belongs, Extends};
 ghost use Rattle.syn_form.specs.Same.{OfOneBank};
 ghost use Rattle.syn_form.specs.Simplification.{simplified_out};
 ghost use Rattle.syn_form.specs.Trees.{out_terms};
-ghost use Rattle.syn_row.specs.Rows.{IsPlain, IsWithinRow, bare_row, canonical_row, renumbered_row, row_nodes, row_terms, simplified_row};
+ghost use Rattle.syn_row.specs.Rows.{IsPlain, IsSimplified, IsWithinRow, bare_row, canonical_row, renumbered_row, row_nodes, row_terms, simplified_row};
 ghost use Rattle.syn_row.specs.RowLaws.{CanonicalLaws};
 
 use crate::limits::is_within;
@@ -91,6 +91,7 @@ pub fn canonical(
     ensures extends { Extends bank.old bank.new }
     ensures belongs { IfOk result (λ o. IfSome o (λ q. All (Belongs bank.new) (row_terms q))) }
     ensures plain { IfOk result (λ o. IfSome o (IsPlain syms.now)) }
+    ensures simplified { IfOk result (λ o. IfSome o IsSimplified) }
     ensures within { IfOk result (λ o. IfSome o IsWithinRow) }
     ensures laws { CanonicalLaws }
 {

@@ -271,10 +271,7 @@ fn renumber_form(
         Form::False => Ok(Form::False),
         Form::Atom(r, args) => renumber_atom(bank, alloc, syms, vars, *r, args.get().as_slice()),
         Form::Equal(s, t) => renumber_equality(bank, alloc, syms, vars, s, t),
-        Form::Not(a) => match renumber_form(bank, alloc, syms, vars, a.get()) {
-            Ok(a) => negation_of(alloc, a),
-            other => other,
-        },
+        Form::Not(a) => renumber_negation(bank, alloc, syms, vars, a.get()),
         Form::And(all) => match renumber_forms(bank, alloc, syms, vars, all.get().as_slice()) {
             Ok(all) => conjunction_of(alloc, all),
             Err(error) => Err(error),
@@ -284,6 +281,30 @@ fn renumber_form(
             Err(error) => Err(error),
         },
         Form::Implies(a, b) => renumber_implication(bank, alloc, syms, vars, a.get(), b.get()),
+    }
+}
+
+/// The negation of the formula renumbered.
+#[cycle(forms)]
+#[tactic(auto, using(crate::proofs::Growth::growth))]
+fn renumber_negation(
+    bank: &mut Bank,
+    alloc: Global,
+    syms: &Symbols,
+    vars: &[Var],
+    a: &Form,
+) -> Result<Form, NoMemory>
+    requires few { length vars.now < 2 ^ 32 }
+    requires formed { IsFormed syms.now a.now }
+    requires own { All (Belongs bank.old) (form_terms a.now) }
+    ensures tree { IfOk result (λ g. bare_form g ≡ views.Not (bare_form (renumbered_form vars.now a.now))) }
+    ensures made { bank.new.made ≤ bank.old.made + terms_size a.now }
+    ensures extends { Extends bank.old bank.new }
+    ensures belongs { IfOk result (λ g. All (Belongs bank.new) (form_terms g)) }
+{
+    match renumber_form(bank, alloc, syms, vars, a) {
+        Ok(a) => negation_of(alloc, a),
+        other => other,
     }
 }
 

@@ -8,8 +8,12 @@ ghost use Rattle.syn_row.specs.Rows.{bare_row, row_terms};
 use syn_form::{Form, Out, Side};
 use syn_term::NoMemory;
 
-/// A row of a tableau. A goal is to be shown, an assertion is known; where the formula of a goal is
-/// true, or that of an assertion false, the output is one that meets the specification.
+/// A row of a deductive tableau, after Manna and Waldinger: a goal or an assertion, with a formula and
+/// maybe an output entry. Its variables stand for any values of their sorts. Where an instance of a goal
+/// is true, or one of an assertion false, the same instance of the output is one that is wanted.
+///
+/// Contracts see formula and output as trees; two rows are one where they are with the places of their
+/// terms left out.
 #[derive(Drop)]
 pub struct Row {
     pub side: Side,

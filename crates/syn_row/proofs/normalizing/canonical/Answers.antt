@@ -1,4 +1,4 @@
-use Rattle.syn_row.proofs.Ends.{end_made, end_plain, end_row, end_within, own_bank, simplified_own, simplified_plain}
+use Rattle.syn_row.proofs.Ends.{end_made, end_plain, end_row, end_simplified, end_within, own_bank, simplified_own, simplified_plain}
 use Rattle.syn_row.proofs.normalizing.canonical.Goals as goal
 
 pub simplified-requires : goal.simplified-requires
@@ -21,3 +21,6 @@ returns-in-Ok-clause-plain c = end_plain _ _ _ c.in_ok-row.ensures c.in-Ok.ensur
 
 pub returns-in-Ok-clause-within : goal.returns-in-Ok-clause-within
 returns-in-Ok-clause-within c = end_within _ _ _ c.in_ok-row.ensures c.in-Ok.ensures.tree (c.is_within.ensures.0 c.if-not-is_within.false)
+
+pub returns-in-Ok-clause-simplified : goal.returns-in-Ok-clause-simplified
+returns-in-Ok-clause-simplified c = end_simplified _ _ _ c.in_ok-row.ensures c.in-Ok.ensures.tree

@@ -24,10 +24,10 @@ renumber_form-renumber_equality-requires-clause-left t c = ((equality_formed _ _
 pub renumber_form-renumber_equality-requires-clause-right : goal.renumber_form-renumber_equality-requires-clause-right
 renumber_form-renumber_equality-requires-clause-right t c = ((equality_formed _ _ _ _ c.in-Equal.is).0 c.requires.formed).1
 
-pub renumber_form-renumber_form-requires : goal.renumber_form-renumber_form-requires
-renumber_form-renumber_form-requires t c =
+pub renumber_form-renumber_negation-requires : goal.renumber_form-renumber_negation-requires
+renumber_form-renumber_negation-requires t c =
     let fewer = fewer_negated _ _ _ c.in-Not.is c.get-in-Not.ensures in
-    let less : 3 * form_nodes c.get-in-Not.result.now < t = omega arith in
+    let less : 3 * form_nodes c.get-in-Not.result.now + 1 < t = omega arith in
     (less, (c.requires.few, ((negation_formed _ _ _ _ c.in-Not.is c.get-in-Not.ensures).0 c.requires.formed, own_negation (Belongs _) _ _ _ c.in-Not.is c.get-in-Not.ensures c.requires.own)))
 
 pub renumber_form-renumber_forms-requires : goal.renumber_form-renumber_forms-requires
@@ -51,14 +51,14 @@ renumber_form-renumber_implication-requires t c =
     let both = (implication_formed _ _ _ _ _ _ c.in-Implies.is c.get-in-Implies.ensures c.get-in-Implies-2.ensures).0 c.requires.formed in
     (less, (c.requires.few, (both.0, (both.1, (own_left (Belongs _) _ _ _ _ c.in-Implies.is c.get-in-Implies.ensures c.requires.own, own_right (Belongs _) _ _ _ _ c.in-Implies.is c.get-in-Implies-2.ensures c.requires.own)))))
 
-pub renumber_form-returns-in-Ok-renumber_forms-clause-made : goal.renumber_form-returns-in-Ok-renumber_forms-clause-made
-renumber_form-returns-in-Ok-renumber_forms-clause-made t c = made_chain _ _ _ conjunction _ _ c.in-And.is (c.as_slice-in-And.ensures ∙ c.get-in-And.ensures) c.renumber_forms.ensures.made
+pub renumber_form-returns-in-Ok-clause-made : goal.renumber_form-returns-in-Ok-clause-made
+renumber_form-returns-in-Ok-clause-made t c = made_chain _ _ _ conjunction _ _ c.in-And.is (c.as_slice-in-And.ensures ∙ c.get-in-And.ensures) c.renumber_forms.ensures.made
 
 pub renumber_form-returns-in-Err-clause-made : goal.renumber_form-returns-in-Err-clause-made
 renumber_form-returns-in-Err-clause-made t c = made_chain _ _ _ conjunction _ _ c.in-And.is (c.as_slice-in-And.ensures ∙ c.get-in-And.ensures) c.renumber_forms.ensures.made
 
-pub renumber_form-returns-in-Ok-renumber_forms-2-clause-made : goal.renumber_form-returns-in-Ok-renumber_forms-2-clause-made
-renumber_form-returns-in-Ok-renumber_forms-2-clause-made t c = made_chain _ _ _ disjunction _ _ c.in-Or.is (c.as_slice-in-Or.ensures ∙ c.get-in-Or.ensures) c.renumber_forms-in-Or.ensures.made
+pub renumber_form-returns-in-Ok-renumber_forms-clause-made : goal.renumber_form-returns-in-Ok-renumber_forms-clause-made
+renumber_form-returns-in-Ok-renumber_forms-clause-made t c = made_chain _ _ _ disjunction _ _ c.in-Or.is (c.as_slice-in-Or.ensures ∙ c.get-in-Or.ensures) c.renumber_forms-in-Or.ensures.made
 
 pub renumber_form-returns-in-Err-renumber_forms-clause-made : goal.renumber_form-returns-in-Err-renumber_forms-clause-made
 renumber_form-returns-in-Err-renumber_forms-clause-made t c = made_chain _ _ _ disjunction _ _ c.in-Or.is (c.as_slice-in-Or.ensures ∙ c.get-in-Or.ensures) c.renumber_forms-in-Or.ensures.made
@@ -66,14 +66,14 @@ renumber_form-returns-in-Err-renumber_forms-clause-made t c = made_chain _ _ _ d
 pub renumber_form-returns-in-Implies-clause-made : goal.renumber_form-returns-in-Implies-clause-made
 renumber_form-returns-in-Implies-clause-made t c = made_both _ _ _ _ _ _ _ c.in-Implies.is c.get-in-Implies.ensures c.get-in-Implies-2.ensures c.renumber_implication.ensures.made
 
-pub renumber_form-returns-in-Ok-renumber_forms-clause-belongs : goal.renumber_form-returns-in-Ok-renumber_forms-clause-belongs
-renumber_form-returns-in-Ok-renumber_forms-clause-belongs t c =
-    let own = all-chain (Belongs c.renumber_forms.new.bank) conjunction _ _ refl c.in-Ok-renumber_forms.ensures.belongs in
+pub renumber_form-returns-in-Ok-clause-belongs : goal.renumber_form-returns-in-Ok-clause-belongs
+renumber_form-returns-in-Ok-clause-belongs t c =
+    let own = all-chain (Belongs c.renumber_forms.new.bank) conjunction _ _ refl c.in-Ok.ensures.belongs in
     IfOk-weaker c.conjunction_of.result _ _ (λ g e. subst (λ (z : FormTree). All (Belongs c.renumber_forms.new.bank) (form_terms z)) (sym e) own) c.conjunction_of.ensures
 
-pub renumber_form-returns-in-Ok-renumber_forms-2-clause-belongs : goal.renumber_form-returns-in-Ok-renumber_forms-2-clause-belongs
-renumber_form-returns-in-Ok-renumber_forms-2-clause-belongs t c =
-    let own = all-chain (Belongs c.renumber_forms-in-Or.new.bank) disjunction _ _ refl c.in-Ok-renumber_forms-2.ensures.belongs in
+pub renumber_form-returns-in-Ok-renumber_forms-clause-belongs : goal.renumber_form-returns-in-Ok-renumber_forms-clause-belongs
+renumber_form-returns-in-Ok-renumber_forms-clause-belongs t c =
+    let own = all-chain (Belongs c.renumber_forms-in-Or.new.bank) disjunction _ _ refl c.in-Ok-renumber_forms.ensures.belongs in
     IfOk-weaker c.disjunction_of.result _ _ (λ g e. subst (λ (z : FormTree). All (Belongs c.renumber_forms-in-Or.new.bank) (form_terms z)) (sym e) own) c.disjunction_of.ensures
 
 pub renumber_implication-renumber_form-requires-2 : goal.renumber_implication-renumber_form-requires-2

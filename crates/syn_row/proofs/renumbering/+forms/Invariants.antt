@@ -9,6 +9,9 @@ use Rattle.syn_row.proofs.renumbering.+forms.Given as goal
 abbrev pub decreases-renumber_form : goal.decreases-renumber_form
 decreases-renumber_form l = 3 * form_nodes l.f.now
 
+abbrev pub decreases-renumber_negation : goal.decreases-renumber_negation
+decreases-renumber_negation l = 3 * form_nodes l.a.now + 1
+
 abbrev pub decreases-renumber_implication : goal.decreases-renumber_implication
 decreases-renumber_implication l = 3 * (form_nodes l.a.now + form_nodes l.b.now) + 1
 
