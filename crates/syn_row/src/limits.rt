@@ -1,6 +1,6 @@
 // The limit of a row.
 ghost use Rattle.std.specs.Prelude.{◌↔◌, ◌≤◌, IsTrue};
-ghost use Rattle.syn_row.specs.Rows.{IsWithinRow, row_depth, row_nodes};
+ghost use Rattle.syn_row.specs.Rows.{IsWithinRow, row_depth, row_limit, row_nodes};
 
 use crate::rows::Row;
 
@@ -23,7 +23,7 @@ pub fn is_within(row: &Row) -> bool
 
 /// Whether formula and output have few enough nodes together.
 fn has_few_nodes(row: &Row) -> bool
-    ensures { IsTrue result ↔ (row_nodes row.now ≤ 4096) }
+    ensures { IsTrue result ↔ (row_nodes row.now ≤ row_limit.nodes) }
 {
     let formula = row.form.size(ROW_NODES);
     match &row.out {
@@ -34,7 +34,7 @@ fn has_few_nodes(row: &Row) -> bool
 
 /// Whether neither the formula nor the output is too deep.
 fn is_shallow(row: &Row) -> bool
-    ensures { IsTrue result ↔ (row_depth row.now ≤ 1200) }
+    ensures { IsTrue result ↔ (row_depth row.now ≤ row_limit.depth) }
 {
     let formula = row.form.depth(ROW_DEPTH);
     match &row.out {
