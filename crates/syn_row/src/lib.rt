@@ -1,0 +1,16 @@
+//! Rows of a tableau: a goal or an assertion with a formula and maybe an output. When two rows are one,
+//! when they are variants, which differ in the names of variables alone, and the canonical row, which
+//! all variants of a simplified row have in common.
+#![tactic(auto)]
+
+mod limits;
+mod normalizing;
+mod occurrences;
+mod plain;
+mod renumbering;
+mod rows;
+
+pub use limits::{ROW_DEPTH, ROW_NODES, is_within};
+pub use normalizing::canonical;
+pub use plain::is_plain_row;
+pub use rows::Row;
