@@ -1,7 +1,8 @@
 -- From the shapes of rows to accepted derivations and correct programs.
-use Rattle.std.proofs.Common.{◌≡◌, ℕ, zero, suc, ◌+◌, ◌<◌, ◌≤◌, max, Bool, true, ◌&&◌, List, [], ◌∷◌, ◌++◌, Option, Some, None, map, take, length, slice_get, refl, sym, ◌∙◌, ap, subst, arith, inl, inr, MatchOption}
+use Rattle.std.proofs.Common.{◌≡◌, ℕ, zero, suc, ◌+◌, ◌<◌, ◌≤◌, max, Bool, true, ◌&&◌, List, [], ◌∷◌, ◌++◌, Option, Some, None, map, take, length, slice_get, refl, sym, ◌∙◌, ap, subst, arith, inl, inr, ⊎_elim, MatchOption}
 use Rattle.std.specs.Option.{option_map}
 use Rattle.std.specs.List.{list_all}
+use Rattle.std.proofs.lemmas.Bool.{cases_lt}
 use Rattle.std.proofs.lemmas.List.{map-append, length-map, take_all}
 use Rattle.syn_term.specs.declared.sorts.SymId.{SymId}
 use Rattle.syn_term.specs.declared.sorts.Sort.TheVariants as sort
@@ -29,11 +30,12 @@ use Rattle.syn_app.specs.DerivationText.{entry_of, form_tree, row_tree}
 use Rattle.syn_app.specs.Limits.{FitsForm}
 use Rattle.syn_app.specs.inner.Printing.{nat_program}
 use Rattle.syn_app.specs.Rows.{bare_form, bare_row, simplified_row}
-use Rattle.syn_app.specs.Replay.{FollowsAt, IsUnfinished, closed_term, last_row, program_of_row, row_at, simplified_entry, simplified_rows}
+use Rattle.syn_app.specs.Replay.{FollowsAt, IsAccepted, IsUnfinished, closed_term, last_row, program_of_row, row_at, simplified_entry, simplified_rows}
 use Rattle.syn_app.specs.inner.Shapes.{AreShaped, FirstUnshaped, HasShape, ShapedAt, StepGives, row_variable, solved_goal}
 use Rattle.syn_app.specs.ProgramTexts.{IsProgramText}
-use Rattle.syn_app.specs.SpecText.{AreProgramNames, IsCondition, ProgramNames, ensures_of, nat_declared, spec_of}
+use Rattle.syn_app.specs.SpecText.{AreProgramNames, IsCondition, IsSpecText, ProgramNames, ensures_of, nat_declared, spec_of}
 use Rattle.syn_app.specs.Checks.{IsProven}
+use Rattle.syn_app.specs.Work.{IsDerivationFor}
 use Rattle.syn_app.specs.inner.Checks.{EndsOtherwise, EndsWith, FailsCheck}
 use Rattle.syn_app.specs.Terms.{IsClosed, base_tree, input_id, succ_id, successors_of, term_size, term_tree, zero_id}
 use Rattle.syn_app.proofs.Closed.{closed_term-closed, depth_of-term_tree, bare-term_tree}
@@ -227,6 +229,37 @@ module _ (theory : TheoryTree) (name : List ℕ) (n : ProgramNames) (r : FlatTer
       primitive = primitive;
       text = has_text names;
     }
+
+-- an accepted derivation for a specification of a text is proven, whoever found it accepted
+module _ (theory : TheoryTree) (name : List ℕ) (n : ProgramNames) (r : FlatTerm) (condition : IsCondition r) where
+  all_shaped : (rows : List FlatRow) → ((i : ℕ) → i < length (map entry_of rows) → FollowsAt (spec_of name n r) (map entry_of rows) i) → (k : ℕ) → k ≤ length (map entry_of rows) → AreShaped (term_tree r) (map entry_of rows) k
+  all_shaped rows follow zero le = λ i lt. absurd (omega arith)
+  all_shaped rows follow (suc k) le =
+      let before = all_shaped rows follow k (omega arith) in
+      let here = follows_shaped rows (term_tree r) (spec_of name n r) (is_target name n r (term_tree r) condition refl) k before (follow k (omega arith)) in
+      λ i lt. ⊎_elim (λ (h : i < k). before i h) (λ (h : k ≤ i). let e : k ≡ i = omega arith in subst (ShapedAt (term_tree r) (map entry_of rows)) e here) (cases_lt i k)
+
+  rows_bare : (rows : List FlatRow) → map bare_row (simplified_rows (map entry_of rows)) ≡ simplified_rows (map entry_of rows)
+  rows_bare [] = refl
+  rows_bare (x ∷ rows) =
+      let here : bare_row (simplified_row (row_tree x)) ≡ simplified_row (row_tree x) = bare_row-simplified (row_tree x) ∙ ap simplified_row (bare-tree x) in
+      let more : map bare_row (simplified_rows (map entry_of rows)) ≡ simplified_rows (map entry_of rows) = rows_bare rows in cc
+
+  rows_proven : (rows : List FlatRow) → AreProgramNames n → IsAccepted theory (spec_of name n r) (map entry_of rows) → (p : ProgramTree) × IsProven theory (spec_of name n r) (map entry_of rows) p
+  rows_proven rows names accepted =
+      let kept : List Row = simplified_rows (map entry_of rows) in
+      let many : length (map entry_of rows) ≡ length kept = sym (length-map (map entry_of rows) simplified_entry) in
+      let ends = last_solved kept (length (map entry_of rows)) accepted.last many (ap (λ (z : List Row). row_at z (length (map entry_of rows))) (rows_bare rows) ∙ accepted.is_last) (accepted.final).goal in
+      let shaped = all_shaped rows accepted.follow (length rows) (let a = length-map rows entry_of in omega arith) in
+      (nat_program n.program n.input ends.0, proven theory name n r condition (term_tree r) refl rows kept (rows_bare rows) shaped ends.0 ends.1 names)
+
+pub texts_proven : (theory : TheoryTree) (spec : SpecTree) (entries : List Entry) (b d : List ℕ) → IsSpecText b spec → IsDerivationFor spec d entries → IsAccepted theory spec entries → (p : ProgramTree) × IsProven theory spec entries p
+texts_proven theory spec entries b d h t accepted =
+    let flat = spec_of h.name h.names h.term in
+    let one : IsAccepted theory flat entries = subst (λ (z : SpecTree). IsAccepted theory z entries) h.is accepted in
+    let two : IsAccepted theory flat (map entry_of (t.2).rows) = subst (IsAccepted theory flat) (t.2).is one in
+    subst (λ (z : SpecTree). (p : ProgramTree) × IsProven theory z entries p) (sym h.is)
+    (subst (λ (z : List Entry). (p : ProgramTree) × IsProven theory flat z p) (sym (t.2).is) (rows_proven theory h.name h.names h.term h.condition (t.2).rows h.are_names two))
 
 no_items : (ys : List Row) (y : Row) → ◌≡◌ {A = List Row} [] (ys ++ y ∷ []) → ⊥
 no_items ys y e = let h = ap length e in let k = length-last ys y in omega arith

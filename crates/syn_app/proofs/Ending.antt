@@ -17,10 +17,10 @@ use Rattle.syn_app.specs.SpecText.{ExtendsSpec, IsSpecText, WholeSpec}
 use Rattle.syn_app.specs.DerivationText.{IsDerivationText, entry_of}
 use Rattle.syn_app.specs.Stages.{behind, giving}
 use Rattle.syn_app.specs.Work.{IsBadFor, IsDerivationFor, derivation_stage, derivation_work, replay_stage, spec_stage, spec_work, theory_stage, work}
-use Rattle.syn_app.specs.Comes.{Passed, Stops}
+use Rattle.syn_app.specs.Comes.{Stops}
 use Rattle.syn_app.specs.inner.Checks.{flat_names, flat_spec}
 use Rattle.syn_app.specs.inner.Readers.{IsFlatDerivation}
-use Rattle.syn_app.specs.inner.Judging.{DerivationFails, EntriesFail, IsLoaded, IsSpecRead, Prints, PrintsEntries}
+use Rattle.syn_app.specs.inner.Judging.{DerivationFails, EntriesFail, IsLoaded, IsSpecRead, Passed, Prints, PrintsEntries}
 use Rattle.syn_app.proofs.Stops.{bad_settles, passes_next, rest_ends, stops_first, stops_next, text_passes, told_always}
 
 -- what is judged of the rows is judged of the text

@@ -7,8 +7,8 @@ use Rattle.syn_app.specs.declared.status.Status.{Status}
 use Rattle.syn_app.specs.declared.status.Status.TheVariants as status
 use Rattle.syn_app.specs.declared.status.Which.{Which}
 use Rattle.syn_app.specs.Stages.{AreTold, Has, IsShort, Stage, WhereTold, behind, reading}
-use Rattle.syn_app.specs.Comes.{Passed, Stops}
-use Rattle.syn_app.specs.inner.Judging.{IsLoaded}
+use Rattle.syn_app.specs.Comes.{Stops}
+use Rattle.syn_app.specs.inner.Judging.{IsLoaded, Passed}
 
 -- what holds of told files
 pub told_map : (P Q : List File → Type 0) (files : Option (List File)) → ((fs : List File) → P fs → Q fs) → WhereTold P files → WhereTold Q files

@@ -22,10 +22,6 @@ pub record Scene : Type 0 where
   pub faults : ℕ
   pub faults_after : ℕ
 
--- where files are told, the stage passes with this
-abbrev pub Passed : {A : Type 0} → Stage A → Option (List File) → A → Type 0
-Passed stage files a = WhereTold (λ fs. stage.Passes fs a) files
-
 -- the stage ends with the status, the faults of reading counted before and after: a read failed by the outside's fault, of a file to whose
 -- reading the stage comes; or the stage settles the status
 abbrev pub Stops : {A : Type 0} → Stage A → Option (List File) → ℕ → ℕ → Status → Type 0

@@ -4,12 +4,12 @@ ghost use Rattle.std.specs.Prelude.{◌≡◌, ◌≤◌, map, IfOk, IfErr, Matc
 ghost use Rattle.syn_app.specs.ProgramText.{printed_program};
 ghost use Rattle.syn_app.specs.Trees.{TheoryTree};
 ghost use Rattle.syn_app.specs.inner.Checks.{flat_names, flat_spec};
-ghost use Rattle.syn_app.specs.Comes.{Passed, Stops, TellsPuts, TellsReads};
+ghost use Rattle.syn_app.specs.Comes.{Stops, TellsPuts, TellsReads};
 ghost use Rattle.syn_app.specs.DerivationText.{entry_of};
 ghost use Rattle.syn_app.specs.inner.Printing.{nat_program, nat_program_symbols};
 ghost use Rattle.syn_app.specs.SpecText.{AreProgramNames, IsCondition};
 ghost use Rattle.syn_app.specs.Work.{derivation_work, spec_work, theory_stage, work};
-ghost use Rattle.syn_app.specs.inner.Judging.{DerivationFails, EntriesFail, IsTheory, IsLoaded, IsSpecRead, LoadFails, Prints, PrintsEntries, SpecFails, TheoryFails, WriteEnds};
+ghost use Rattle.syn_app.specs.inner.Judging.{DerivationFails, EntriesFail, IsTheory, IsLoaded, IsSpecRead, LoadFails, Passed, Prints, PrintsEntries, SpecFails, TheoryFails, WriteEnds};
 ghost use Rattle.syn_app.specs.inner.Requests.{command_asked};
 
 use crate::check::{check, symbols_of};

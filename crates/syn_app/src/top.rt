@@ -4,18 +4,21 @@ ghost use Rattle.std.specs.Prelude.{◌≡◌, ◌↔◌, ◌⊎◌, ℕ, List, 
 ghost use Rattle.syn_outside.specs.Faults.{Rose};
 ghost use Rattle.syn_outside.specs.Files.{File};
 ghost use Rattle.syn_outside.specs.Texts.{Adds, AddsPrefix};
-ghost use Rattle.syn_app.specs.Trees.{ProgramTree};
+ghost use Rattle.syn_app.specs.Trees.{ProgramTree, SpecTree, TheoryTree};
+ghost use Rattle.syn_app.specs.Checks.{IsProven};
 ghost use Rattle.syn_app.specs.Comes.{Comes, ComesFor, IsQuiet, IsRefusal, TellsPuts, TellsReads};
 ghost use Rattle.syn_app.specs.ProgramTexts.{IsProgramText};
 ghost use Rattle.syn_app.specs.Refusals.{FaultOf, HasBadDerivation, HasBadSpec, HasFile, IsBadTheory, OfCommand, OfTexts, Writing};
-ghost use Rattle.syn_app.specs.Replay.{IsFirstToFail, IsUnfinished};
+ghost use Rattle.syn_app.specs.Replay.{IsAccepted, IsFirstToFail, IsUnfinished};
+ghost use Rattle.syn_app.specs.SpecText.{IsSpecText};
 ghost use Rattle.syn_app.specs.Stages.{IsLong};
 ghost use Rattle.syn_app.specs.Words.{Fits, FitsNone};
-ghost use Rattle.syn_app.specs.Work.{Asks};
+ghost use Rattle.syn_app.specs.Work.{Asks, IsDerivationFor};
 ghost use Rattle.syn_app.specs.inner.Requests.{command_asked};
 ghost use Rattle.syn_app.specs.inner.Says.{Says};
 
 use crate::command::{Command, Request, request_of};
+use crate::flat::Entry;
 use crate::judging::{command_text, write};
 use crate::status::{Status, Which};
 use std::alloc::Global;
@@ -79,6 +82,9 @@ pub fn synth<C: Cabinet, S: Sink>(
     // Bytes are the text of one program at most.
     ensures done { result ≡ Status.Done → OfCommand (map string_bytes words.now) (C.files cab.old) (OfTexts (Writing (Adds (S.text out.old) (S.text out.new)))) }
     ensures program_once { (bytes : List ℕ) (p q : ProgramTree) → IsProgramText bytes p → IsProgramText bytes q → p ≡ q }
+
+    // An accepted derivation for a specification of a text is proven, whoever found it accepted.
+    ensures sound { (theory : TheoryTree) (spec : SpecTree) (entries : List Entry) (b d : List ℕ) → IsSpecText b spec → IsDerivationFor spec d entries → IsAccepted theory spec entries → (p : ProgramTree) × IsProven theory spec entries p }
 
     // What each refusal says of the words and the files.
     ensures words { (result ≡ Status.Words) ↔ FitsNone (map string_bytes words.now) }

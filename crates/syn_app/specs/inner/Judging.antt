@@ -18,7 +18,11 @@ use Rattle.syn_app.specs.Replay.{IsFirstToFail, IsUnfinished}
 use Rattle.syn_app.specs.Checks.{IsProven}
 use Rattle.syn_app.specs.inner.Checks.{flat_names, flat_spec}
 use Rattle.syn_app.specs.inner.Readers.{IsFlatSpec}
-use Rattle.syn_app.specs.Stages.{IsLong, IsShort}
+use Rattle.syn_app.specs.Stages.{IsLong, IsShort, Stage, WhereTold}
+
+-- where files are told, the stage passes with this
+abbrev pub Passed : {A : Type 0} → Stage A → Option (List File) → A → Type 0
+Passed stage files a = WhereTold (λ fs. stage.Passes fs a) files
 
 -- the bytes are the file's, where files are told, and they are short enough
 abbrev pub IsLoaded : Option (List File) → List ℕ → List ℕ → Type 0

@@ -1,3 +1,4 @@
+use Rattle.syn_app.proofs.Accepted.{texts_proven}
 use Rattle.syn_app.proofs.OneProgram.{program_text_once}
 use Rattle.syn_app.proofs.OneStatus.{asks_once, comes_asked}
 use Rattle.syn_app.proofs.top.synth.Goals as goal
@@ -10,3 +11,6 @@ returns-clause-one g c = asks_once
 
 pub returns-clause-program_once : goal.returns-clause-program_once
 returns-clause-program_once g c = program_text_once
+
+pub returns-clause-sound : goal.returns-clause-sound
+returns-clause-sound g c = texts_proven
