@@ -1,0 +1,14 @@
+pub mod Under
+pub mod Lookups
+pub mod Sizes
+pub mod Sorts
+pub mod States
+pub mod Measures
+pub mod Ends
+pub mod Growth
+pub mod Changed
+pub mod PairLists
+pub mod Stepping
+pub mod Loops
+pub mod Rooms
+pub mod Applied
