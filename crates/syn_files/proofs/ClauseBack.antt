@@ -22,6 +22,7 @@ use Rattle.syn_form.specs.PlainQuantified.{IsPlainQForm}
 use Rattle.syn_form.specs.Printing.{joined, printed_form, printed_out, printed_qform, printed_term}
 use Rattle.syn_form.specs.Quantified.{bare_qform, free_vars}
 use Rattle.syn_form.specs.Scopes.{Named, TextScope}
+use Rattle.syn_form.specs.Texts.{expression_limit}
 use Rattle.syn_form.specs.Trees.{FormTree, OutTree, QFormTree, bare_form, bare_out, form_vars, out_vars, term_vars}
 use Rattle.syn_form.proofs.BareVars.{vars_bare}
 use Rattle.syn_form.proofs.Owned.{All-left, All-right}
@@ -135,7 +136,7 @@ module _ (ds : List Decl) (names : List Named) (good : IsTable (table_of ds)) (w
   -- a clause of a function
   pub fun_clause_told : (own : List ℕ) (ts : List TermTree) (o : OutTree) → own ≡ own_name ds → IsName own → 1 ≤ length ts → All (IsSorted table) ts → map (λ (n : Named). n.var) names ≡ flat_map term_vars ts → AreLineNames ds names → IsPlainOut table o → All (Contains (flat_map term_vars ts)) (out_vars o) → IsWithinLimit (decl.FunClause ts o) → Told ds (decl.FunClause (map bare ts) (bare_out o)) (fun_clause_text scope own ts o)
   fun_clause_told own ts o is named some ss e new plain among limit =
-      let body = out_stands table names good written apart o plain (all_named ts e (out_vars o) among) limit.0 limit.1 in
+      let body = out_stands table names good written apart expression_limit o plain (all_named ts e (out_vars o) among) limit.0 limit.1 in
       let lexemes = name_lexeme (codes "clause") ∷ ((name_lexeme own ∷ args_lexemes ts) ++ fixed mark.Equals ∷ body.lexemes) in
       record {
         words = map spelling lexemes;

@@ -16,7 +16,7 @@ use Rattle.syn_form.specs.PlainQuantified.{IsPlainQForm, binders_of}
 use Rattle.syn_form.specs.Printing.{printed_form, printed_out, printed_qform, printed_term}
 use Rattle.syn_form.specs.Quantified.{bare_qform, free_vars, qform_depth, qform_nodes}
 use Rattle.syn_form.specs.Scopes.{Named, TextScope}
-use Rattle.syn_form.specs.Texts.{IsFormOf, IsOutOf, IsQFormOf, IsTermOf, expression_limit}
+use Rattle.syn_form.specs.Texts.{IsFormOf, IsOutOf, IsQFormOf, IsTermOf, Limit, expression_limit}
 use Rattle.syn_form.specs.Trees.{FormTree, OutTree, QFormTree, bare_form, bare_out, form_depth, form_nodes, form_vars, out_depth, out_nodes, out_vars, term_vars}
 use Rattle.syn_form.proofs.BareVars.{form_vars_bare, out_vars_bare, qform_vars_bare, term_vars_bare}
 use Rattle.syn_form.proofs.Lists.{none_in_nil}
@@ -93,8 +93,9 @@ module _ (table : SymbolTable) (names : List Named) (good : IsTable table) (writ
         };
       }
 
-  pub out_stands : (o : OutTree) → IsPlainOut table o → AreNamed (out_vars o) → out_nodes o ≤ expression_limit.nodes → out_depth o ≤ expression_limit.depth → Stands (IsOutOf expression_limit scope) (printed_out scope o) (bare_out o)
-  out_stands o plain among few shallow =
+  -- an output within a limit
+  pub out_stands : (limit : Limit) (o : OutTree) → IsPlainOut table o → AreNamed (out_vars o) → out_nodes o ≤ limit.nodes → out_depth o ≤ limit.depth → Stands (IsOutOf limit scope) (printed_out scope o) (bare_out o)
+  out_stands limit o plain among few shallow =
       let can : CanReadOut scope o = out_told scope names_over o plain.formed (can_vars (out_vars o) among) in
       record {
         lexemes = words_of_out (out_written scope o);
@@ -104,8 +105,8 @@ module _ (table : SymbolTable) (names : List Named) (good : IsTable table) (writ
           written = refl;
           tree = out_back scope o plain.formed can;
           sorts = subst HasOneSortEach (sym (out_vars_bare o)) plain.sorts;
-          few = subst (λ n. n ≤ expression_limit.nodes) (sym (out_nodes_bare o)) few;
-          shallow = subst (λ n. n ≤ expression_limit.depth) (sym (out_depth_bare o)) shallow;
+          few = subst (λ n. n ≤ limit.nodes) (sym (out_nodes_bare o)) few;
+          shallow = subst (λ n. n ≤ limit.depth) (sym (out_depth_bare o)) shallow;
         };
       }
 

@@ -41,7 +41,7 @@ head_in_turn f name t o s = simp append_assoc refl
 
 module _ (table : SymbolTable) (over : IsOver (file_scope table [])) where
   -- an input with its sort
-  inputs_put : (ps : List Param) → All (λ p. IsName p.name) ps → All (λ p. IsSort table p.sort) ps → (ls : List (List Lexeme)) × WriteParameters table ps (map (map spelling) ls) × EachPuts (map (parameter_text table) ps) ls
+  pub inputs_put : (ps : List Param) → All (λ p. IsName p.name) ps → All (λ p. IsSort table p.sort) ps → (ls : List (List Lexeme)) × WriteParameters table ps (map (map spelling) ls) × EachPuts (map (parameter_text table) ps) ls
   inputs_put [] named sorts = ([], tt, tt)
   inputs_put (p ∷ ps) named sorts =
       let q = sort_put table over p.sort (All-head (λ (z : Param). IsSort table z.sort) p ps sorts) in
@@ -54,16 +54,23 @@ module _ (table : SymbolTable) (over : IsOver (file_scope table [])) where
       )
 
 -- one text or more, with commas between
-texts_put : (ts : List (List ℕ)) (ls : List (List Lexeme)) → 1 ≤ length ts → EachPuts ts ls → Puts (joined (codes ", ") ts) (with_commas ls)
+pub texts_put : (ts : List (List ℕ)) (ls : List (List Lexeme)) → 1 ≤ length ts → EachPuts ts ls → Puts (joined (codes ", ") ts) (with_commas ls)
 texts_put [] ls some h = absurd (omega (arith, some))
 texts_put (t ∷ ts) [] some h = absurd h
 texts_put (t ∷ ts) (l ∷ ls) some h = commas_puts t l ts ls h.0 h.1
 
 -- the words of a list in brackets, with more behind them
-behind_brackets : (ls : List (List Lexeme)) (k : List Lexeme) → map spelling (fixed mark.Open ∷ (with_commas ls ++ fixed mark.Close ∷ k)) ≡ bracketed (listed_words (map (map spelling) ls)) ++ map spelling k
+pub behind_brackets : (ls : List (List Lexeme)) (k : List Lexeme) → map spelling (fixed mark.Open ∷ (with_commas ls ++ fixed mark.Close ∷ k)) ≡ bracketed (listed_words (map (map spelling) ls)) ++ map spelling k
 behind_brackets ls k =
     ap (λ (z : List Lexeme). map spelling (fixed mark.Open ∷ z)) (sym (append_assoc (with_commas ls) (fixed mark.Close ∷ []) k))
     ∙ (map-append spelling (in_brackets (with_commas ls)) k ∙ ap (λ (z : List Word). z ++ map spelling k) (brackets_spelled ls))
+
+-- inputs are printed over a table that has more as they are
+pub params_same : (small wide : SymbolTable) → IsPrefix small wide → (ps : List Param) → All (λ (p : Param). IsSort small p.sort) ps → map (parameter_text small) ps ≡ map (parameter_text wide) ps
+params_same small wide more [] sorts = refl
+params_same small wide more (p ∷ ps) sorts =
+    ap (λ (z : List ℕ). (p.name ++ codes ": " ++ z) ∷ map (parameter_text small) ps) (sym (sort_same small wide more p.sort (All-head (λ (z : Param). IsSort small z.sort) p ps sorts)))
+    ∙ ap (λ (z : List (List ℕ)). parameter_text wide p ∷ z) (params_same small wide more ps (All-tail (λ (z : Param). IsSort small z.sort) p ps sorts))
 
 -- the line is words that write the head
 pub record HeadTold (ds : List Decl) (h : HeadTree) (output : List ℕ) (text : List ℕ) : Type 0 where
@@ -80,8 +87,8 @@ module _ (ds : List Decl) (theory : IsTheory ds) (h : HeadTree) (output : List �
 
   own_told : HeadTold ds h output (head_text (table_of ds) h output)
   own_told =
-      let p = inputs_put table over h.inputs (inputs_new ds h output may) (input_sorts ds h output may) in
-      let q = sort_put table over h.result (result_sort ds h output may) in
+      let p = inputs_put table over h.inputs (inputs_new ds h (output ∷ []) may) (input_sorts ds h (output ∷ []) may) in
+      let q = sort_put table over h.result (result_sort ds h (output ∷ []) may) in
       let texts = map (parameter_text table) h.inputs in
       let t = joined (codes ", ") texts in
       let value = sort_text table h.result in
@@ -91,7 +98,7 @@ module _ (ds : List Decl) (theory : IsTheory ds) (h : HeadTree) (output : List �
       let k : List Lexeme = fixed mark.Colon ∷ name_lexeme output ∷ fixed mark.Colon ∷ q.word ∷ [] in
       let value_put = name_then_colon output value (q.word ∷ []) (output_new ds h output may).0 (sort_puts table over h.result q).words in
       let last = word_then_space (fixed mark.Colon) (output ++ (codes ": " ++ value)) (name_lexeme output ∷ fixed mark.Colon ∷ q.word ∷ []) (3, omega arith, refl) value_put.words in
-      let behind = brackets_then (name_lexeme h.program) t (with_commas p.0) (codes ": " ++ (output ++ (codes ": " ++ value))) k (inl (program_new ds h output may).0) inside last in
+      let behind = brackets_then (name_lexeme h.program) t (with_commas p.0) (codes ": " ++ (output ++ (codes ": " ++ value))) k (inl (program_new ds h (output ∷ []) may).0) inside last in
       let lexemes = name_lexeme (codes "program") ∷ name_lexeme h.program ∷ fixed mark.Open ∷ (with_commas p.0 ++ fixed mark.Close ∷ k) in
       let line = word_then_space (name_lexeme (codes "program")) (h.program ++ (codes "(" ++ (t ++ (codes ")" ++ (codes ": " ++ (output ++ (codes ": " ++ value))))))) (name_lexeme h.program ∷ fixed mark.Open ∷ (with_commas p.0 ++ fixed mark.Close ∷ k)) (inl program_name) behind.words in
       record {
@@ -109,15 +116,9 @@ module _ (ds : List Decl) (theory : IsTheory ds) (h : HeadTree) (output : List �
   -- over a table that has more, too
   pub head_told : (wide : SymbolTable) → IsPrefix (table_of ds) wide → HeadTold ds h output (head_text wide h output)
   head_told wide more =
-      let inputs : map (parameter_text table) h.inputs ≡ map (parameter_text wide) h.inputs = inputs_same h.inputs (input_sorts ds h output may) in
-      let value : sort_text table h.result ≡ sort_text wide h.result = sym (sort_same table wide more h.result (result_sort ds h output may)) in
+      let inputs : map (parameter_text table) h.inputs ≡ map (parameter_text wide) h.inputs = params_same (table_of ds) wide more h.inputs (input_sorts ds h (output ∷ []) may) in
+      let value : sort_text table h.result ≡ sort_text wide h.result = sym (sort_same table wide more h.result (result_sort ds h (output ∷ []) may)) in
       subst (HeadTold ds h output)
       (ap (λ (z : List (List ℕ)). codes "program " ++ in_brackets_text h.program z ++ codes ": " ++ output ++ codes ": " ++ sort_text table h.result) inputs
       ∙ ap (λ (z : List ℕ). codes "program " ++ in_brackets_text h.program (map (parameter_text wide) h.inputs) ++ codes ": " ++ output ++ codes ": " ++ z) value)
       own_told
-    where
-      inputs_same : (ps : List Param) → All (λ (p : Param). IsSort (table_of ds) p.sort) ps → map (parameter_text (table_of ds)) ps ≡ map (parameter_text wide) ps
-      inputs_same [] sorts = refl
-      inputs_same (p ∷ ps) sorts =
-          ap (λ (z : List ℕ). (p.name ++ codes ": " ++ z) ∷ map (parameter_text (table_of ds)) ps) (sym (sort_same (table_of ds) wide more p.sort (All-head (λ (z : Param). IsSort (table_of ds) z.sort) p ps sorts)))
-          ∙ ap (λ (z : List (List ℕ)). parameter_text wide p ∷ z) (inputs_same ps (All-tail (λ (z : Param). IsSort (table_of ds) z.sort) p ps sorts))

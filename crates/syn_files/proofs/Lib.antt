@@ -25,6 +25,9 @@ pub mod PartLaws
 pub mod SpecSteps
 pub mod TextLoop
 pub mod SpecLoop
+pub mod BodyLaws
+pub mod ProgramHeadLaws
+pub mod ProgramSteps
 pub mod NumberLaws
 pub mod MonoLaws
 pub mod ParamLaws
@@ -47,4 +50,6 @@ pub mod PartBack
 pub mod HeadBack
 pub mod SpecLead
 pub mod SpecClean
+pub mod ProgramBack
+pub mod BarePrograms
 pub mod SpecPrinting

@@ -95,7 +95,7 @@ pub record PartTold (s : SpecTree) (p : SpecPart) (text : List ℕ) : Type 0 whe
   pub spelled : Spelled text words
   pub writes : WritesPart s p words
 
-none_named : (vars : List Var) → vars ≡ [] → All (Contains (map (λ (n : Named). n.var) [])) vars
+pub none_named : (vars : List Var) → vars ≡ [] → All (Contains (map (λ (n : Named). n.var) [])) vars
 none_named [] e = All-nil (Contains (map (λ (n : Named). n.var) []))
 none_named (v ∷ vs) e = absurd (cc)
 

@@ -67,11 +67,11 @@ module _ (ds : List Decl) where
         sign_read (codes ":") ws c is_c ∙ (ap (λ (z : List Word). sign_word (codes ":") ∷ z) p.2 ∙ ap (λ (z : List Word). sign_word (codes ":") ∷ p.0 ∷ z) q.0),
       )
 
-  value_read : (ws : List Word) (s : Sort) → value_line (table_of ds) ws ≡ Some s → (w : Word) × WritesSort (table_of ds) s w × (ws ≡ sign_word (codes ":") ∷ w ∷ [])
+  pub value_read : (ws : List Word) (s : Sort) → value_line (table_of ds) ws ≡ Some s → (w : Word) × WritesSort (table_of ds) s w × (ws ≡ sign_word (codes ":") ∷ w ∷ [])
   value_read ws s e = option_and_then_some value_sort (sign_first (codes ":") ws) s e
       (λ c is_c k. option_and_then_some value_end (sort_first (table_of ds) c) s k (λ r is_r j. value_got ws c r s is_c is_r j))
 
-  value_reads : (w : Word) (s : Sort) → WritesSort (table_of ds) s w → value_line (table_of ds) (sign_word (codes ":") ∷ w ∷ []) ≡ Some s
+  pub value_reads : (w : Word) (s : Sort) → WritesSort (table_of ds) s w → value_line (table_of ds) (sign_word (codes ":") ∷ w ∷ []) ≡ Some s
   value_reads w s h = ap (λ (o : Option (Got Sort)). o >>= value_end) (sort_reads (table_of ds) w s [] h)
 
   -- a function

@@ -40,8 +40,8 @@ module _ (ds : List Decl) (theory : IsTheory ds) (s : SpecTree) (is : IsSpec ds 
       let good = spec_good ds theory s is in
       let may = (spec_may ds theory s is).head in
       let sorts = sort_clean s.table (syms_clean s.table good) (named_sorts_clean s.table good) in
-      let program = name_clean s.head.program (program_new ds s.head s.output may).0 in
-      let named = inputs_new ds s.head s.output may in
+      let program = name_clean s.head.program (program_new ds s.head (s.output ∷ []) may).0 in
+      let named = inputs_new ds s.head (s.output ∷ []) may in
       let inputs : All IsClean (map (parameter_text s.table) s.head.inputs) =
       All-map IsClean (parameter_text s.table) s.head.inputs (λ k d lt. let p = get_or s.head.inputs k d in row p.name (codes ": " ∷ sort_text s.table p.sort ∷ []) (name_clean p.name (named k d lt)) (lit refl, (sorts p.sort, tt))) in
       row (codes "program ") (in_brackets_text s.head.program (map (parameter_text s.table) s.head.inputs) ∷ codes ": " ∷ s.output ∷ codes ": " ∷ sort_text s.table s.head.result ∷ []) (lit refl)

@@ -2,17 +2,18 @@
 use Rattle.std.proofs.Common.{◌≡◌, ℕ, ◌≤◌, List, [], ◌∷◌, ◌++◌, Option, Some, codes, length, map, take, refl, ◌∙◌, ap, append_assoc}
 use Rattle.std.specs.List.{flat_map}
 use Rattle.std.proofs.lemmas.List.{take_all}
+use Rattle.syn_term.specs.declared.sorts.Sort.{Sort}
 use Rattle.syn_term.specs.declared.sorts.Sym.{Sym}
 use Rattle.syn_term.specs.declared.sorts.SymId.{SymId}
 use Rattle.syn_term.specs.Symbols.{SymbolTable, symbol_at}
-use Rattle.syn_form.specs.Printing.{name_of}
+use Rattle.syn_form.specs.Printing.{name_of, sort_text}
 use Rattle.syn_lex.specs.TextLines.{with_feed}
 use Rattle.syn_model.specs.declared.spec_part.SpecPart.{SpecPart}
 use Rattle.syn_model.specs.Heads.{HeadTree, Param, input_symbol, program_symbol}
 use Rattle.syn_model.specs.Specifications.{SpecTree}
-use Rattle.syn_files.specs.Printed.{comma_list, in_brackets_text, parameter_text, symbol_text}
+use Rattle.syn_files.specs.Printed.{comma_list, in_brackets_text, parameter_text}
 use Rattle.syn_files.specs.PrintedSpec.{printed_head, printed_part, printed_spec}
-use Rattle.syn_files.specs.inner.Entries.{input_text, result_text}
+use Rattle.syn_files.specs.inner.Entries.{called_text, input_text, result_text}
 
 -- an input is put by its symbol
 abbrev text_of : SymbolTable → Option Sym → List ℕ
@@ -27,17 +28,29 @@ inputs_texts table (id ∷ ids) (p ∷ ps) e =
     let rest : map (symbol_at table) ids ≡ map (λ (q : Param). Some (input_symbol q)) ps = cc in
     ap (λ (z : List ℕ). z ∷ map (input_text table) ids) (ap (text_of table) here) ∙ ap (λ (z : List (List ℕ)). parameter_text table p ∷ z) (inputs_texts table ids ps rest)
 
--- the program with its inputs was put
-pub program_put : (syms table : SymbolTable) (h : HeadTree) (program : SymId) (ids : List SymId) (name old first second third fourth new : List ℕ) → syms ≡ table → symbol_at table program ≡ Some (program_symbol h) → map (symbol_at table) ids ≡ map (λ (p : Param). Some (input_symbol p)) h.inputs → first ≡ old ++ codes "program " → name ≡ symbol_text syms program → second ≡ first ++ name → third ≡ second ++ codes "(" → fourth ≡ third ++ comma_list (map (input_text syms) ids) → new ≡ fourth ++ codes ")" → new ≡ old ++ (codes "program " ++ in_brackets_text h.program (map (parameter_text table) h.inputs))
-program_put syms table h program ids name old first second third fourth new same own are put_first named put_name put_open put_inputs put_close =
-    let called : name ≡ h.program = named ∙ (ap (λ (t : SymbolTable). symbol_text t program) same ∙ ap name_of own) in
-    let texts : map (input_text syms) ids ≡ map (parameter_text table) h.inputs = ap (λ (t : SymbolTable). map (input_text t) ids) same ∙ inputs_texts table ids h.inputs are in
-    put_close
-    ∙ (ap (λ (z : List ℕ). z ++ codes ")") (put_inputs ∙ (ap (λ (z : List (List ℕ)). third ++ comma_list z) texts ∙ ap (λ (z : List ℕ). z ++ comma_list (map (parameter_text table) h.inputs)) (put_open ∙ ap (λ (z : List ℕ). z ++ codes "(") (put_name ∙ (ap (λ (z : List ℕ). first ++ z) called ∙ ap (λ (z : List ℕ). z ++ h.program) put_first)))))
-    ∙ in_turn old (codes "program ") h.program (comma_list (map (parameter_text table) h.inputs)))
+-- the program with its inputs, by their numbers
+pub called_is : (table : SymbolTable) (h : HeadTree) (program : SymId) (ids : List SymId) → symbol_at table program ≡ Some (program_symbol h) → map (symbol_at table) ids ≡ map (λ (p : Param). Some (input_symbol p)) h.inputs → called_text table program ids ≡ codes "program " ++ in_brackets_text h.program (map (parameter_text table) h.inputs)
+called_is table h program ids own are =
+    ap (λ (z : List ℕ). codes "program " ++ in_brackets_text z (map (input_text table) ids)) (ap name_of own)
+    ∙ ap (λ (z : List (List ℕ)). codes "program " ++ in_brackets_text h.program z) (inputs_texts table ids h.inputs are)
+
+-- it was put
+pub program_put : (syms table : SymbolTable) (h : HeadTree) (program : SymId) (ids : List SymId) (old new : List ℕ) → syms ≡ table → symbol_at table program ≡ Some (program_symbol h) → map (symbol_at table) ids ≡ map (λ (p : Param). Some (input_symbol p)) h.inputs → new ≡ old ++ called_text syms program ids → new ≡ old ++ (codes "program " ++ in_brackets_text h.program (map (parameter_text table) h.inputs))
+program_put syms table h program ids old new same own are put =
+    put ∙ ap (λ (z : List ℕ). old ++ z) (ap (λ (t : SymbolTable). called_text t program ids) same ∙ called_is table h program ids own are)
+
+-- and the sort of its result behind it
+pub program_head_put : (syms table : SymbolTable) (h : HeadTree) (program : SymId) (ids : List SymId) (s : Sort) (name old first second new : List ℕ) → syms ≡ table → symbol_at table program ≡ Some (program_symbol h) → map (symbol_at table) ids ≡ map (λ (p : Param). Some (input_symbol p)) h.inputs → s ≡ h.result → first ≡ old ++ called_text syms program ids → second ≡ first ++ codes ": " → name ≡ sort_text syms s → new ≡ second ++ name → new ≡ old ++ (codes "program " ++ in_brackets_text h.program (map (parameter_text table) h.inputs) ++ codes ": " ++ sort_text table h.result)
+program_head_put syms table h program ids s name old first second new same own are sorted put_first put_colon named put_name =
+    let called = program_put syms table h program ids old first same own are put_first in
+    let value : name ≡ sort_text table h.result = named ∙ (ap (λ (t : SymbolTable). sort_text t s) same ∙ ap (sort_text table) sorted) in
+    put_name
+    ∙ (ap (λ (z : List ℕ). second ++ z) value
+    ∙ (ap (λ (z : List ℕ). z ++ sort_text table h.result) (put_colon ∙ ap (λ (z : List ℕ). z ++ codes ": ") called)
+    ∙ in_turn old (codes "program " ++ in_brackets_text h.program (map (parameter_text table) h.inputs)) (sort_text table h.result)))
   where
-    in_turn : (o f n t : List ℕ) → (((o ++ f) ++ n) ++ codes "(") ++ t ++ codes ")" ≡ o ++ (f ++ (n ++ codes "(" ++ t ++ codes ")"))
-    in_turn o f n t = simp append_assoc refl
+    in_turn : (o f t : List ℕ) → ((o ++ f) ++ codes ": ") ++ t ≡ o ++ (f ++ codes ": " ++ t)
+    in_turn o f t = simp append_assoc refl
 
 -- a text is put as it is
 abbrev pub itself : List ℕ → List ℕ

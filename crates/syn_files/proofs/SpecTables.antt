@@ -40,10 +40,10 @@ inputs_grow : (t : SymbolTable) (ps : List Param) → IsPrefix t (with_inputs t 
 inputs_grow t [] = IsPrefix-refl t
 inputs_grow t (p ∷ ps) = IsPrefix-trans t (with_symbol t (input_symbol p)) (with_inputs (with_symbol t (input_symbol p)) ps) (IsPrefix-with_symbol t (input_symbol p)) (inputs_grow (with_symbol t (input_symbol p)) ps)
 
-head_grows : (t : SymbolTable) (h : HeadTree) → IsPrefix t (with_head t h)
+pub head_grows : (t : SymbolTable) (h : HeadTree) → IsPrefix t (with_head t h)
 head_grows t h = IsPrefix-trans t (with_symbol t (program_symbol h)) (with_head t h) (IsPrefix-with_symbol t (program_symbol h)) (inputs_grow (with_symbol t (program_symbol h)) h.inputs)
 
-head_table : (ds : List Decl) (h : HeadTree) (more : List (List ℕ)) → IsTheory ds → MayHead ds h more → IsTable (with_head (table_of ds) h)
+pub head_table : (ds : List Decl) (h : HeadTree) (more : List (List ℕ)) → IsTheory ds → MayHead ds h more → IsTable (with_head (table_of ds) h)
 head_table ds h more theory may =
     let m = head_fits ds h more may in
     inputs_table (with_symbol (table_of ds) (program_symbol h)) h.inputs (table_added (table_of ds) (program_symbol h) (theory_table ds theory) m.0) m.1
@@ -65,28 +65,30 @@ inputs_free t (p ∷ ps) x free other k =
     (λ c. other (Contains-tail p.name (input_names ps) x c))
     k
 
--- the name that comes last among those of a head is new, and none of the others
-module _ (ds : List Decl) (h : HeadTree) (output : List ℕ) (may : MayHead ds h (output ∷ [])) where
-  abbrev rest : List (List ℕ)
-  rest = input_names h.inputs ++ output ∷ []
-
+-- the names that a head brings are new, and its sorts are there
+module _ (ds : List Decl) (h : HeadTree) (more : List (List ℕ)) (may : MayHead ds h more) where
   pub program_new : IsNewName ds h.program
-  program_new = All-head (IsNewName ds) h.program rest may.new
+  program_new = All-head (IsNewName ds) h.program (input_names h.inputs ++ more) may.new
 
-  rest_new : All (IsNewName ds) rest
-  rest_new = All-tail (IsNewName ds) h.program rest may.new
+  rest_new : All (IsNewName ds) (input_names h.inputs ++ more)
+  rest_new = All-tail (IsNewName ds) h.program (input_names h.inputs ++ more) may.new
 
   pub inputs_new : All (λ (p : Param). IsName p.name) h.inputs
-  inputs_new = All-weaker (λ (p : Param). IsNewName ds p.name) (λ (p : Param). IsName p.name) (λ p n. n.0) h.inputs (All-unmap (IsNewName ds) (λ (p : Param). p.name) h.inputs (All-left (IsNewName ds) (input_names h.inputs) (output ∷ []) rest_new))
-
-  pub output_new : IsNewName ds output
-  output_new = All-head (IsNewName ds) output [] (All-right (IsNewName ds) (input_names h.inputs) (output ∷ []) rest_new)
+  inputs_new = All-weaker (λ (p : Param). IsNewName ds p.name) (λ (p : Param). IsName p.name) (λ p n. n.0) h.inputs (All-unmap (IsNewName ds) (λ (p : Param). p.name) h.inputs (All-left (IsNewName ds) (input_names h.inputs) more rest_new))
 
   pub input_sorts : All (λ (p : Param). IsSort (table_of ds) p.sort) h.inputs
   input_sorts = All-unmap (IsSort (table_of ds)) (λ (p : Param). p.sort) h.inputs (All-tail (IsSort (table_of ds)) h.result (sorts_of h.inputs) may.sorts)
 
   pub result_sort : IsSort (table_of ds) h.result
   result_sort = All-head (IsSort (table_of ds)) h.result (sorts_of h.inputs) may.sorts
+
+-- the name that comes last among those of a head is new, and none of the others
+module _ (ds : List Decl) (h : HeadTree) (output : List ℕ) (may : MayHead ds h (output ∷ [])) where
+  abbrev rest : List (List ℕ)
+  rest = input_names h.inputs ++ output ∷ []
+
+  pub output_new : IsNewName ds output
+  output_new = All-head (IsNewName ds) output [] (All-right (IsNewName ds) (input_names h.inputs) (output ∷ []) (rest_new ds h (output ∷ []) may))
 
   other_program : h.program ≢ output
   other_program e = not_behind h.program rest may.distinct (subst (Contains rest) (sym e) (Contains-push (input_names h.inputs) output))

@@ -5,17 +5,19 @@ use Rattle.syn_term.specs.Tokens.{Word}
 use Rattle.syn_lex.specs.declared.lines.FileError.{FileError}
 use Rattle.syn_lex.specs.Stepping.{IsTextOf, Lead, ReadsText}
 use Rattle.syn_expr.proofs.BareCounts.{depth_bare, form_depth_bare, form_nodes_bare, nodes_bare, out_depth_bare, out_nodes_bare, qform_depth_bare, qform_nodes_bare}
-use Rattle.syn_form.specs.Texts.{expression_limit}
+use Rattle.syn_form.specs.Texts.{body_limit, expression_limit}
 use Rattle.syn_model.specs.declared.decl.Decl.{Decl}
 use Rattle.syn_model.specs.declared.decl.Decl.TheVariants as decl
 use Rattle.syn_model.specs.declared.spec_part.SpecPart.{SpecPart}
 use Rattle.syn_model.specs.declared.spec_part.SpecPart.TheVariants as part
-use Rattle.syn_model.specs.BareParts.{bare_part, bare_spec_tree}
+use Rattle.syn_model.specs.BareParts.{bare_part, bare_program_tree, bare_spec_tree}
 use Rattle.syn_model.specs.BareTrees.{bare_decl, bare_theory_tree}
+use Rattle.syn_model.specs.Programs.{ProgramTree}
 use Rattle.syn_model.specs.Specifications.{SpecTree}
 use Rattle.syn_model.specs.Theories.{TheoryTree}
 use Rattle.syn_files.specs.Printed.{IsWithinLimit}
 use Rattle.syn_files.specs.PrintedSpec.{IsPartWithinLimit}
+use Rattle.syn_files.specs.ProgramLines.{IsBodyWithinLimit, IsWholeProgram, ProgramLine, ProgramState, ProgramWordsLead, begun as headed, blank as no_words, body as program_body, heading as program_heading, known as program, nothing as unread}
 use Rattle.syn_files.specs.SpecLines.{IsWholeText, SpecLine, SpecState, SpecWordsLead, WritesPart, blank as empty, heading, known, nothing, one_part, title, titled}
 use Rattle.syn_files.specs.TheoryLines.{IsWholeTheory, TheoryLine, TheoryState, WordsLead, Writes, blank, declared, named}
 
@@ -112,3 +114,25 @@ spec_text_within ds bytes s h = each_before IsPartWithinLimit IsPartWithinLimit 
 pub spec_within : (ds : List Decl) (bytes : List ℕ) (r : Result SpecTree FileError) → ReadsText (SpecLine ds) nothing IsWholeText (λ s. known (bare_spec_tree s)) bytes r → IfOk r (λ s. All IsPartWithinLimit s.parts)
 spec_within ds bytes (Ok s) h = spec_text_within ds bytes s h
 spec_within ds bytes (Err e) h = tt
+
+-- the body of a program that a reader answers
+abbrev IsProgramWithin : ProgramState → Type 0
+IsProgramWithin unread = Unit {0}
+IsProgramWithin (headed h) = Unit {0}
+IsProgramWithin (program p) = IsBodyWithinLimit p
+
+module _ (ds : List Decl) where
+  program_words_within : (s t : ProgramState) (words : List Word) → ProgramWordsLead ds s words t → IsProgramWithin s → IsProgramWithin t
+  program_words_within _ _ _ (no_words s) h = h
+  program_words_within _ _ _ (program_heading head words writes may) h = tt
+  program_words_within _ _ _ (program_body head o words is may) h = (is.few, is.shallow)
+
+  program_line_within : (s : ProgramState) (line : List ℕ) (t : ProgramState) → ProgramLine ds s line t → IsProgramWithin s → IsProgramWithin t
+  program_line_within s line t l h = program_words_within s t l.0 l.2 h
+
+body_with_places : (p : ProgramTree) → IsBodyWithinLimit (bare_program_tree p) → IsBodyWithinLimit p
+body_with_places p h = (subst (λ (n : ℕ). n ≤ body_limit.nodes) (out_nodes_bare p.body) h.0, subst (λ (n : ℕ). n ≤ body_limit.depth) (out_depth_bare p.body) h.1)
+
+pub program_within : (ds : List Decl) (bytes : List ℕ) (r : Result ProgramTree FileError) → ReadsText (ProgramLine ds) unread IsWholeProgram (λ p. program (bare_program_tree p)) bytes r → IfOk r IsBodyWithinLimit
+program_within ds bytes (Ok p) h = body_with_places p (lead_keeps (ProgramLine ds) IsProgramWithin (program_line_within ds) unread (program (bare_program_tree p)) h.lines h.led tt)
+program_within ds bytes (Err e) h = tt

@@ -275,7 +275,7 @@ module _ (table : SymbolTable) (syms : All CleanSym table.syms) (sorts : All Cle
   abbrev OutPrints : List Named → OutTree → Type 0
   OutPrints names o = IsClean (printed_out (file_scope table names) o)
 
-  out_clean : (names : List Named) → All CleanNamed names → (o : OutTree) → OutPrints names o
+  pub out_clean : (names : List Named) → All CleanNamed names → (o : OutTree) → OutPrints names o
   out_clean names named = by_outs (OutPrints names)
       (λ t. subst IsClean (sym (fold-Give (print_out_step (file_scope table names)) t)) (term_clean names named t))
       (λ f u v first second.

@@ -3,4 +3,5 @@ pub mod TheoryLines
 pub mod SpecLines
 pub mod Printed
 pub mod PrintedSpec
+pub mod ProgramLines
 pub mod inner

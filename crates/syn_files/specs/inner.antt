@@ -3,6 +3,7 @@ pub mod SimpleLines
 pub mod Telling
 pub mod SpecWords
 pub mod SpecTelling
+pub mod ProgramTelling
 pub mod Entries
 pub mod ClauseWords
 pub mod Params

@@ -1,5 +1,5 @@
-//! Theory and specification files: what a text declares line by line, and the text that is printed for
-//! a theory or a specification. What is printed reads back to an equal one.
+//! Theory, specification and program files: what a text says line by line, and the text that is printed
+//! for a theory, a specification or a program. What is printed reads back to an equal one.
 #![tactic(auto)]
 
 mod axiom_lines;
@@ -17,6 +17,10 @@ mod params;
 mod print_decls;
 mod print_lines;
 mod print_parts;
+mod program_body;
+mod program_head;
+mod program_printing;
+mod program_text;
 mod simple_lines;
 mod spec_forms;
 mod spec_head;
@@ -27,5 +31,7 @@ mod title;
 
 pub use print_lines::print_theory;
 pub use print_parts::print_spec;
+pub use program_printing::print_program;
+pub use program_text::read_program;
 pub use spec_text::read_spec;
 pub use theory_text::read_theory;

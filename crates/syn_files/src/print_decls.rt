@@ -24,7 +24,12 @@ fn put_term(alloc: Global, out: &mut String, scope: &Scope, t: &Term) -> Result<
 }
 
 /// Puts the output after what stands already.
-fn put_out(alloc: Global, out: &mut String, scope: &Scope, o: &Out) -> Result<(), NoMemory>
+pub(crate) fn put_out(
+    alloc: Global,
+    out: &mut String,
+    scope: &Scope,
+    o: &Out,
+) -> Result<(), NoMemory>
     ensures { OnOk result (string_bytes out.new ≡ string_bytes out.old ++ printed_out (spoken scope.now) o.now) }
 {
     let text = print_out(alloc, scope, o)?;

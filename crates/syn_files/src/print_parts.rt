@@ -13,7 +13,7 @@ ghost use Rattle.syn_files.specs.Printed.{comma_list};
 ghost use Rattle.syn_files.specs.PrintedSpec.{IsPartWithinLimit, printed_head, printed_part, printed_spec};
 ghost use Rattle.syn_files.specs.TheoryLines.{file_scope};
 ghost use Rattle.syn_files.specs.SpecLines.{IsWholeText, SpecLine, known, nothing, output_names};
-ghost use Rattle.syn_files.specs.inner.Entries.{input_text, program_text, result_text};
+ghost use Rattle.syn_files.specs.inner.Entries.{called_text, input_text, program_text, result_text};
 
 use crate::print_decls::{put_form, put_qform};
 use crate::spec_forms::output_of;
@@ -56,16 +56,27 @@ fn put_inputs(out: &mut String, syms: &Symbols, inputs: &[SymId]) -> Result<(), 
     Ok(())
 }
 
+/// `program f(a: S, ..)`, by the numbers of the program and the inputs.
+pub(crate) fn put_called(
+    out: &mut String,
+    syms: &Symbols,
+    program: SymId,
+    inputs: &[SymId],
+) -> Result<(), NoMemory>
+    ensures { OnOk result (string_bytes out.new ≡ string_bytes out.old ++ called_text syms.now program inputs.now) }
+{
+    put(out, "program ")?;
+    put(out, symbol_name(syms, program))?;
+    put(out, "(")?;
+    put_inputs(out, syms, inputs)?;
+    put(out, ")")
+}
+
 /// `program f(a: S, ..)`.
 fn put_program(out: &mut String, spec: &Spec) -> Result<(), NoMemory>
     ensures { OnOk result (string_bytes out.new ≡ string_bytes out.old ++ program_text spec.now) }
 {
-    let syms = spec.symbols();
-    put(out, "program ")?;
-    put(out, symbol_name(syms, spec.program()))?;
-    put(out, "(")?;
-    put_inputs(out, syms, spec.inputs())?;
-    put(out, ")")
+    put_called(out, spec.symbols(), spec.program(), spec.inputs())
 }
 
 /// `program f(a: S, ..): z: S`.

@@ -150,7 +150,7 @@ pub(crate) fn sort_line(
 }
 
 /// `: S`, at the end of a line.
-fn value_line(syms: &Symbols, cursor: &mut Cursor<'_>) -> Option<Sort>
+pub(crate) fn value_line(syms: &Symbols, cursor: &mut Cursor<'_>) -> Option<Sort>
     ensures { result ≡ lines.value_line syms.now cursor.old.left }
 {
     if !cursor.sign(b":") {

@@ -26,7 +26,11 @@ result_text table f = option_map_or (sort_text table) (option_and_then (λ (g : 
 abbrev pub input_text : SymbolTable → SymId → List ℕ
 input_text table f = symbol_text table f ++ codes ": " ++ result_text table (symbol_at table f)
 
--- `program f(a: S, ..)`
+-- `program f(a: S, ..)`, by the numbers of the program and the inputs
+abbrev pub called_text : SymbolTable → SymId → List SymId → List ℕ
+called_text table program inputs = codes "program " ++ in_brackets_text (symbol_text table program) (map (input_text table) inputs)
+
+-- the same of a specification
 abbrev pub program_text : SpecTree → List ℕ
 program_text s = codes "program " ++ in_brackets_text s.head.program (map (parameter_text s.table) s.head.inputs)
 

@@ -1,0 +1,20 @@
+use Rattle.std.proofs.Common.{◌≡◌, ◌+◌, true≢false, length, sym, ◌∙◌, ap, arith}
+use Rattle.std.proofs.lemmas.List.{length-map}
+use Rattle.syn_files.proofs.ProgramSteps.{end_complete, end_open, end_without}
+use Rattle.syn_files.proofs.program_text.finished.Goals as goal
+
+pub returns-in-None-clause-answer : goal.returns-in-None-clause-answer
+returns-in-None-clause-answer c = λ ds bytes cut led.
+    let n : c.len.result ≡ length c.args.cut.now.lines.items = omega (arith, c.len.ensures) in
+    end_without ds bytes _ _ cut _ _ _ (ap (λ k. k + 1) (n ∙ sym (length-map c.args.cut.now.lines.items (λ line. line.now)))) led c.in-None.is
+
+pub returns-then-is_empty-clause-answer : goal.returns-then-is_empty-clause-answer
+returns-then-is_empty-clause-answer c = λ ds bytes cut led.
+    let n : c.len.result ≡ length c.args.cut.now.lines.items = omega (arith, c.len.ensures) in
+    end_complete ds bytes _ _ cut _ _ _ (ap (λ k. k + 1) (n ∙ sym (length-map c.args.cut.now.lines.items (λ line. line.now)))) led _ c.in-Some.is (c.is_empty.ensures.0 c.if-is_empty.true)
+
+pub returns-else-is_empty-clause-answer : goal.returns-else-is_empty-clause-answer
+returns-else-is_empty-clause-answer c = λ ds bytes cut led.
+    let n : c.len.result ≡ length c.args.cut.now.lines.items = omega (arith, c.len.ensures) in
+    end_open ds bytes _ _ cut _ _ _ (ap (λ k. k + 1) (n ∙ sym (length-map c.args.cut.now.lines.items (λ line. line.now)))) led
+    (λ none. true≢false (sym (c.is_empty.ensures.1 none) ∙ c.if-is_empty.false))
