@@ -1,6 +1,6 @@
 -- Lines and texts of programs don't look at places in declarations: over declarations with the places of their terms left out they are
 -- the same. So who read a theory, whose text says the declarations without places, may speak of programs over these.
-use Rattle.std.proofs.Common.{◌≡◌, ◌↔◌, ◌⊎◌, ◌<◌, ℕ, List, [], ◌∷◌, All, Contains, Result, Ok, Err, map, refl, sym, ◌∙◌, ap, subst}
+use Rattle.std.proofs.Common.{◌≡◌, ◌↔◌, ◌⊎◌, ℕ, List, [], ◌∷◌, All, Contains, Result, Ok, Err, map, sym, ◌∙◌, ap, subst}
 use Rattle.std.proofs.lemmas.List.Elements.{All-weaker}
 use Rattle.syn_term.specs.Symbols.{SymbolTable, IsSort, IsTaken}
 use Rattle.syn_term.specs.Tokens.{Word}
@@ -12,7 +12,7 @@ use Rattle.syn_model.specs.declared.decl.Decl.{Decl}
 use Rattle.syn_model.specs.BareParts.{bare_program_tree}
 use Rattle.syn_model.specs.BareTrees.{bare_decl}
 use Rattle.syn_model.specs.Heads.{HeadTree, IsNewName, MayHead, head_names, sorts_of, with_head}
-use Rattle.syn_model.specs.Programs.{IsProgram, IsProgramHead, MayBeBody, ProgramHeadTree, ProgramTree, head_part, headed}
+use Rattle.syn_model.specs.Programs.{IsProgram, IsProgramHead, ProgramHeadTree, ProgramTree, head_part, headed}
 use Rattle.syn_model.specs.Tables.{other_names, table_of}
 use Rattle.syn_model.proofs.BareDeclaring.{names_bare, table_bare}
 use Rattle.syn_model.proofs.ProgramLaws.{may_be_body_bare}
@@ -54,6 +54,9 @@ module _ {S : Type 0} (f g : Step S) (to : (s : S) (line : List ℕ) (t : S) →
   reads_along seen (Err (error.Bad n)) h = bad_along n h
   reads_along seen (Err error.NoMemory) h = h
 
+abbrev over_table : HeadTree → SymbolTable → ProgramHeadTree
+over_table h t = record { head = h; table = with_head t h }
+
 -- declarations that put together the same table and bring the same other names
 module _ (ds es : List Decl) (tables : table_of ds ≡ table_of es) (names : other_names ds ≡ other_names es) where
   new_along : (x : List ℕ) → IsNewName ds x → IsNewName es x
@@ -71,7 +74,7 @@ module _ (ds es : List Decl) (tables : table_of ds ≡ table_of es) (names : oth
   }
 
   headed_along : (h : HeadTree) → headed ds h ≡ headed es h
-  headed_along h = ap (λ (t : SymbolTable). record { head = h; table = with_head t h }) tables
+  headed_along h = ap (over_table h) tables
 
   writes_along : (h : HeadTree) (words : List Word) → WritesProgramHead ds h words → WritesProgramHead es h words
   writes_along h words w = record {

@@ -1,5 +1,5 @@
 // The first line of a program's text: its head.
-ghost use Rattle.std.specs.Prelude.{◌≡◌, IfOk, MatchOption};
+ghost use Rattle.std.specs.Prelude.{◌≡◌, [], IfOk, MatchOption};
 ghost use Rattle.syn_model.specs.Heads.{MayHead, given_head};
 ghost use Rattle.syn_model.specs.Programs.{headed};
 ghost use Rattle.syn_model.specs.Tables.{table_of};

@@ -1,5 +1,5 @@
 // The text of a program, line by line. What is known of it is nothing yet, its head, or the program.
-ghost use Rattle.std.specs.Prelude.{◌≡◌, [], ℕ, List, IfOk, None, map};
+ghost use Rattle.std.specs.Prelude.{◌≡◌, ◌↔◌, [], ℕ, List, IfOk, IsTrue, None, map};
 ghost use Rattle.syn_term.specs.Bank.{Extends};
 ghost use Rattle.syn_lex.specs.Stepping.{Lead, OneText, ReadsText};
 ghost use Rattle.syn_lex.specs.TextLines.{IsCut};
@@ -122,6 +122,13 @@ impl ProgramProgress {
     }
 }
 
+/// Whether nothing follows the last line.
+fn is_ended(cut: &Cut) -> bool
+    ensures { IsTrue result ↔ (cut.now.rest.now ≡ []) }
+{
+    cut.rest.is_empty()
+}
+
 /// The program that the lines lead to, where one is there and nothing follows the last line.
 fn finished(progress: ProgramProgress, cut: &Cut) -> Result<Program, FileError>
     ensures answer { (ds : List Decl) (bytes : List ℕ) → IsCut bytes (map (λ line. line.now) cut.now.lines.items) cut.now.rest.now → Lead (ProgramLine ds) nothing (map (λ line. line.now) cut.now.lines.items) (program_state progress.head progress.program) → ReadsText (ProgramLine ds) nothing IsWholeProgram (λ p. known (bare_program_tree p)) bytes result }
@@ -133,7 +140,7 @@ fn finished(progress: ProgramProgress, cut: &Cut) -> Result<Program, FileError>
     match program {
         None => Err(FileError::Bad(after)),
         Some(program) => {
-            if cut.rest.is_empty() {
+            if is_ended(cut) {
                 Ok(program)
             } else {
                 drop(program);
@@ -143,6 +150,7 @@ fn finished(progress: ProgramProgress, cut: &Cut) -> Result<Program, FileError>
     }
 }
 
+/// The program that the lines of a text lead to. The errors are those of `read_program`.
 #[tactic(auto, using(syn_expr::proofs::Growth::growth))]
 fn program_in(
     alloc: Global,
@@ -161,8 +169,14 @@ fn program_in(
     for i in 0..cut.lines.len() {
         match progress.take_line(alloc, bank, theory, cut.line_at(i)) {
             Ok(true) => {}
-            Ok(false) => return Err(FileError::Bad(i as u64 + 1)),
-            Err(NoMemory) => return Err(FileError::NoMemory),
+            Ok(false) => {
+                drop(progress);
+                return Err(FileError::Bad(i as u64 + 1));
+            }
+            Err(NoMemory) => {
+                drop(progress);
+                return Err(FileError::NoMemory);
+            }
         }
     }
     finished(progress, cut)

@@ -8,13 +8,13 @@ returns-in-None-clause-answer c = λ ds bytes cut led.
     let n : c.len.result ≡ length c.args.cut.now.lines.items = omega (arith, c.len.ensures) in
     end_without ds bytes _ _ cut _ _ _ (ap (λ k. k + 1) (n ∙ sym (length-map c.args.cut.now.lines.items (λ line. line.now)))) led c.in-None.is
 
-pub returns-then-is_empty-clause-answer : goal.returns-then-is_empty-clause-answer
-returns-then-is_empty-clause-answer c = λ ds bytes cut led.
+pub returns-then-is_ended-clause-answer : goal.returns-then-is_ended-clause-answer
+returns-then-is_ended-clause-answer c = λ ds bytes cut led.
     let n : c.len.result ≡ length c.args.cut.now.lines.items = omega (arith, c.len.ensures) in
-    end_complete ds bytes _ _ cut _ _ _ (ap (λ k. k + 1) (n ∙ sym (length-map c.args.cut.now.lines.items (λ line. line.now)))) led _ c.in-Some.is (c.is_empty.ensures.0 c.if-is_empty.true)
+    end_complete ds bytes _ _ cut _ _ _ (ap (λ k. k + 1) (n ∙ sym (length-map c.args.cut.now.lines.items (λ line. line.now)))) led _ c.in-Some.is (c.is_ended.ensures.0 c.if-is_ended.true)
 
-pub returns-else-is_empty-clause-answer : goal.returns-else-is_empty-clause-answer
-returns-else-is_empty-clause-answer c = λ ds bytes cut led.
+pub returns-else-is_ended-clause-answer : goal.returns-else-is_ended-clause-answer
+returns-else-is_ended-clause-answer c = λ ds bytes cut led.
     let n : c.len.result ≡ length c.args.cut.now.lines.items = omega (arith, c.len.ensures) in
     end_open ds bytes _ _ cut _ _ _ (ap (λ k. k + 1) (n ∙ sym (length-map c.args.cut.now.lines.items (λ line. line.now)))) led
-    (λ none. true≢false (sym (c.is_empty.ensures.1 none) ∙ c.if-is_empty.false))
+    (λ none. true≢false (sym (c.is_ended.ensures.1 none) ∙ c.if-is_ended.false))
