@@ -1,0 +1,17 @@
+pub mod Answers
+pub mod Turns
+pub mod Tallies
+pub mod Fits
+pub mod Rooms
+pub mod Picking
+pub mod Growing
+pub mod Light
+pub mod EntryLaws
+pub mod Steps
+pub mod CallSteps
+pub mod EntryAnswers
+pub mod CallAnswers
+pub mod OrderAnswers
+pub mod Measures
+pub mod Lists
+pub mod Tops
