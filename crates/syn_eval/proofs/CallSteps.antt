@@ -10,8 +10,8 @@ use Rattle.syn_model.specs.Clausal.{Clause}
 use Rattle.syn_model.specs.Evaluation.{Counted, after, evaluate_form, evaluate_out, evaluate_term}
 use Rattle.syn_eval.specs.declared.evaluating.Scope.{Scope}
 use Rattle.syn_eval.specs.Ending.{IsSpent}
-use Rattle.syn_eval.specs.inner.Scopes.{form_in, function_at, order_at, out_in, program_at, relation_at, term_in}
-use Rattle.syn_eval.proofs.Answers.{followed, no_turn}
+use Rattle.syn_eval.specs.inner.Scopes.{form_in, function_at, number_in, order_at, out_in, program_at, relation_at, term_in}
+use Rattle.syn_eval.proofs.Answers.{followed, made, no_turn}
 
 -- a turn may be counted before or after what was chosen is known
 turn_first : {A X : Type 0} (f : X → Option (Counted A)) (o : Option X) → option_and_then (λ x. after 1 (f x)) o ≡ after 1 (option_and_then f o)
@@ -74,11 +74,11 @@ module _ (m : Meaning) (vs : List ValueTree) where
   program_one s body b e is h n = some_then (λ body. after 1 (evaluate_out (reading_at m n vs) (numbered_values []) body)) m.body body e ∙ ap (after 1) (sym (out_inside s m vs [] h n b ∙ ap (evaluate_out (reading_at m n vs) (numbered_values [])) is))
 
 -- the second measure, compared with the first
-abbrev pub compared : Scope → TermTree → ValueTree → ℕ → Option (Counted Bool)
-compared s t v n = option_and_then (λ w. after w.turns (smaller (number_of v) (number_of w.result))) (term_in s t n)
+abbrev pub compared : Scope → TermTree → Option ℕ → ℕ → Option (Counted Bool)
+compared s t a n = option_and_then (λ b. after b.turns (smaller a b.result)) (number_in s t n)
 
 abbrev pub both_measured : Scope → Scope → TermTree → ℕ → Option (Counted Bool)
-both_measured s r t = followed (term_in s t) (compared r t)
+both_measured s r t = followed (number_in s t) (compared r t)
 
 module _ (m : Meaning) (measure : TermTree) (vs : List ValueTree) where
   pub order_turn : IsSpent (order_at m measure vs) 0
@@ -90,7 +90,10 @@ module _ (m : Meaning) (measure : TermTree) (vs : List ValueTree) where
       let sum : (v.turns + w.turns) + b.turns ≡ v.turns + (w.turns + b.turns) = omega arith in
       ap (λ t. Some (record { result = b.result; turns = t })) sum
 
-  measured : (o p : Option (Counted ValueTree)) → option_and_then (λ v. option_and_then (smaller_values v) p) o ≡ option_and_then (λ v. after v.turns (option_and_then (λ w. after w.turns (smaller (number_of v.result) (number_of w.result))) p)) o
+  abbrev numbered : Option (Counted ValueTree) → Option (Counted (Option ℕ))
+  numbered = made number_of
+
+  measured : (o p : Option (Counted ValueTree)) → option_and_then (λ v. option_and_then (smaller_values v) p) o ≡ option_and_then (λ a. after a.turns (option_and_then (λ b. after b.turns (smaller a.result b.result)) (numbered p))) (numbered o)
   measured None p = refl
   measured (Some v) None = refl
   measured (Some v) (Some w) = summed_turns v w (smaller (number_of v.result) (number_of w.result))
@@ -99,4 +102,4 @@ module _ (m : Meaning) (measure : TermTree) (vs : List ValueTree) where
   order_one s r h k n =
       let first = evaluate_term (reading_at m n []) (numbered_values (take (half (length vs)) vs)) measure in
       let second = evaluate_term (reading_at m n []) (numbered_values (drop (half (length vs)) vs)) measure in
-      ap (after 1) (measured first second ∙ λ i. option_and_then (λ v. after v.turns (option_and_then (λ w. after w.turns (smaller (number_of v.result) (number_of w.result))) (sym (term_inside r m [] (drop (half (length vs)) vs) k n measure) i))) (sym (term_inside s m [] (take (half (length vs)) vs) h n measure) i))
+      ap (after 1) (measured first second ∙ λ i. option_and_then (λ a. after a.turns (option_and_then (λ b. after b.turns (smaller a.result b.result)) (numbered (sym (term_inside r m [] (drop (half (length vs)) vs) k n measure) i)))) (numbered (sym (term_inside s m [] (take (half (length vs)) vs) h n measure) i)))

@@ -15,3 +15,4 @@ pub mod OrderAnswers
 pub mod Measures
 pub mod Lists
 pub mod Tops
+pub mod BareCalls

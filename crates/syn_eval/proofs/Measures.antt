@@ -16,8 +16,8 @@ use Rattle.syn_eval.specs.inner.Weights.{all_nodes, weight}
 use Rattle.syn_eval.proofs.Turns.{fewer, turn_less}
 
 -- a body, one level below
-pub body_less : (m : Meaning) (turns left n x y : ℕ) → left < turns → n ≤ all_nodes m → x ≤ 4 * n + 1 → y ≡ 2 → left * weight m + x < turns * weight m + y
-body_less m turns left n x y lt le h e = turn_less left turns (weight m) x y lt (omega (arith, le, h, e))
+pub body_less : (m : Meaning) (turns left n x y : ℕ) → left < turns → n ≤ all_nodes m → x ≤ 4 * n + 1 → left * weight m + x < turns * weight m + y
+body_less m turns left n x y lt le h = turn_less left turns (weight m) x y lt (omega (arith, le, h))
 
 -- what follows within a term, a formula and an output
 pub call_less : (w turns left : ℕ) (t : TermTree) (p : Place) (f : SymId) (args : List TermTree) → t ≡ node_view.App p f args → left ≤ turns → left * w + 3 < turns * w + 4 * nodes t
@@ -25,21 +25,31 @@ call_less w turns left t p f args e le =
     let n : nodes t ≡ 1 + sum (map nodes args) = ap nodes e ∙ nodes-App p f args in
     fewer left turns w 3 (4 * nodes t) le (omega (arith, n))
 
-pub ask_less : (w turns left : ℕ) (f : FormTree) (r : SymId) (args : List TermTree) → f ≡ form.Atom r args → left ≤ turns → left * w + 3 < turns * w + 4 * form_nodes f
-ask_less w turns left f r args e le =
+pub ask_less : (w turns left : ℕ) (args : List TermTree) → left ≤ turns → left * w + 2 < turns * w + (4 * sum (map nodes args) + 3)
+ask_less w turns left args le = fewer left turns w 2 (4 * sum (map nodes args) + 3) le (omega arith)
+
+pub second_term_less : (w turns left : ℕ) (a b : TermTree) → left ≤ turns → left * w + 4 * nodes b < turns * w + (4 * (nodes a + nodes b) + 1)
+second_term_less w turns left a b le = fewer left turns w (4 * nodes b) (4 * (nodes a + nodes b) + 1) le (omega arith)
+
+pub conclusion_less : (w turns left : ℕ) (a b : FormTree) → left ≤ turns → left * w + 4 * form_nodes b < turns * w + (4 * (form_nodes a + form_nodes b) + 1)
+conclusion_less w turns left a b le = fewer left turns w (4 * form_nodes b) (4 * (form_nodes a + form_nodes b) + 1) le (omega arith)
+
+-- the arms of a formula
+pub atom_less : (w turns : ℕ) (f : FormTree) (r : SymId) (args us : List TermTree) → f ≡ form.Atom r args → us ≡ args → turns * w + (4 * sum (map nodes us) + 3) < turns * w + 4 * form_nodes f
+atom_less w turns f r args us e is =
     let n : form_nodes f ≡ 1 + sum (map nodes args) = ap form_nodes e ∙ form_nodes-Atom r args in
-    fewer left turns w 3 (4 * form_nodes f) le (omega (arith, n))
+    let k : sum (map nodes us) ≡ sum (map nodes args) = ap (λ z. sum (map nodes z)) is in
+    omega (arith, n, k)
 
-pub second_term_less : (w turns left : ℕ) (f : FormTree) (a b : TermTree) → f ≡ form.Equal a b → left ≤ turns → left * w + 4 * nodes b < turns * w + 4 * form_nodes f
-second_term_less w turns left f a b e le =
-    let n : form_nodes f ≡ 1 + (nodes a + nodes b) = ap form_nodes e ∙ form_nodes-Equal a b in
-    fewer left turns w (4 * nodes b) (4 * form_nodes f) le (omega (arith, n))
+pub equal_less : (w turns : ℕ) (f : FormTree) (a b : TermTree) → f ≡ form.Equal a b → turns * w + (4 * (nodes a + nodes b) + 1) < turns * w + 4 * form_nodes f
+equal_less w turns f a b e = let n : form_nodes f ≡ 1 + (nodes a + nodes b) = ap form_nodes e ∙ form_nodes-Equal a b in omega (arith, n)
 
-pub conclusion_less : (w turns left : ℕ) (f a b g : FormTree) → f ≡ form_view.Implies a b → g ≡ b → left ≤ turns → left * w + 4 * form_nodes g < turns * w + 4 * form_nodes f
-conclusion_less w turns left f a b g e is le =
+pub implies_less : (w turns : ℕ) (f a b g h : FormTree) → f ≡ form_view.Implies a b → g ≡ a → h ≡ b → turns * w + (4 * (form_nodes g + form_nodes h) + 1) < turns * w + 4 * form_nodes f
+implies_less w turns f a b g h e is are =
     let n : form_nodes f ≡ 1 + (form_nodes a + form_nodes b) = ap form_nodes e ∙ form_nodes-Implies a b in
-    let k : form_nodes g ≡ form_nodes b = ap form_nodes is in
-    fewer left turns w (4 * form_nodes g) (4 * form_nodes f) le (omega (arith, n, k))
+    let k : form_nodes g ≡ form_nodes a = ap form_nodes is in
+    let l : form_nodes h ≡ form_nodes b = ap form_nodes are in
+    omega (arith, n, k, l)
 
 pub first_arm_less : (w turns left : ℕ) (o : OutTree) (f : FormTree) (u v g : OutTree) → o ≡ out_view.If f u v → g ≡ u → left ≤ turns → left * w + (4 * out_nodes g + 1) < turns * w + (4 * out_nodes o + 1)
 first_arm_less w turns left o f u v g e is le =

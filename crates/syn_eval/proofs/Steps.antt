@@ -1,5 +1,5 @@
 -- Evaluation step by step: what each case of a term, an output and a formula asks first, and what then.
-use Rattle.std.proofs.Common.{◌≡◌, ◌↔◌, ℕ, IsTrue, ◌+◌, Bool, true, false, not, ◌||◌, List, Option, None, Some, map, if◌then◌else◌, refl, sym, ap, subst, ◌∙◌, arith}
+use Rattle.std.proofs.Common.{◌≡◌, ◌↔◌, ℕ, IsTrue, ◌+◌, Bool, true, false, not, ◌||◌, List, Option, None, Some, Result, map, if◌then◌else◌, refl, sym, ap, subst, ◌∙◌, arith}
 use Rattle.std.specs.List.{list_all, list_any}
 use Rattle.std.specs.Option.{option_and_then, option_map}
 use Rattle.syn_term.specs.declared.sorts.SymId.{SymId}
@@ -21,7 +21,8 @@ use Rattle.syn_model.specs.Evaluation.{Counted, after, are_same, evaluate_term, 
 use Rattle.syn_model.proofs.EvaluationEquations.{evaluate_form-And, evaluate_form-Atom, evaluate_form-Equal, evaluate_form-False, evaluate_form-Implies, evaluate_form-Not, evaluate_form-Or, evaluate_form-True, evaluate_out-Give, evaluate_out-If, evaluate_term-App, evaluate_term-Var}
 use Rattle.syn_eval.specs.declared.evaluating.Scope.{Scope}
 use Rattle.syn_eval.specs.declared.evaluating.Tally.{Tally}
-use Rattle.syn_eval.specs.Ending.{IsWithin}
+use Rattle.syn_eval.specs.declared.errors.EvalError.{EvalError}
+use Rattle.syn_eval.specs.Ending.{Ends, IsWithin}
 use Rattle.syn_eval.specs.inner.Scopes.{form_in, forms_in, out_in, reading_in, tallied, tally_in, tally_of, term_in, terms_in, truth_in, value_in, variables_in}
 use Rattle.syn_eval.proofs.Answers.{Grows, followed, made, made_grows, made_within, pair_is}
 use Rattle.syn_eval.proofs.Growing.{form_grows, out_grows, term_grows}
@@ -67,6 +68,10 @@ module _ (s : Scope) where
 
   pub atom_is : (f : FormTree) (r : SymId) (args us : List TermTree) → f ≡ form.Atom r args → us ≡ args → (n : ℕ) → form_in s f n ≡ followed (terms_in s us) (truth_in s r) n
   atom_is f r args us e a n = ap (λ z. form_in s z n) e ∙ (evaluate_form-Atom (reading_in s n) (variables_in s) r args ∙ ap (λ z. on_all ((reading_in s n).truth r) (map (evaluate_term (reading_in s n) (variables_in s)) z)) (sym a))
+
+  -- what is answered of one way to write a formula, is answered of the formula
+  pub form_ends : (turns : ℕ) (f g : FormTree) (r : Result (Bool × ℕ) EvalError) → f ≡ g → Ends (form_in s g) turns r → Ends (form_in s f) turns r
+  form_ends turns f g r e h = subst (λ z. Ends (form_in s z) turns r) (sym e) h
 
   abbrev pub same_as : TermTree → ValueTree → ℕ → Option (Counted Bool)
   same_as t v n = made (same_value v) (term_in s t n)

@@ -1,18 +1,29 @@
 -- For public contracts: what is answered by an evaluation that is given so many turns.
-use Rattle.std.specs.Prelude.{◌≡◌, ℕ, ◌≤◌, ◌<◌, Bool, List, Option, Some, Result, Ok, Err, All}
+use Rattle.std.specs.Prelude.{◌≡◌, ℕ, ◌≤◌, ◌<◌, Bool, List, Option, None, Some, Result, Ok, Err, All, map}
 use Rattle.syn_term.specs.Symbols.{SymbolTable}
-use Rattle.syn_form.specs.Trees.{OutTree}
 use Rattle.syn_value.specs.declared.tree.ValueTree.{ValueTree}
 use Rattle.syn_value.specs.Values.{FitsTurns}
-use Rattle.syn_model.specs.Calls.{Meaning}
+use Rattle.syn_model.specs.declared.decl.Decl.{Decl}
+use Rattle.syn_model.specs.BareParts.{bare_program_tree}
+use Rattle.syn_model.specs.BareTrees.{bare_decl}
+use Rattle.syn_model.specs.Calls.{Meaning, call_of}
 use Rattle.syn_model.specs.Evaluation.{Counted}
-use Rattle.syn_model.specs.Theories.{TheoryTree}
+use Rattle.syn_model.specs.Programs.{ProgramTree}
 use Rattle.syn_eval.specs.declared.errors.EvalError.{EvalError}
 use Rattle.syn_eval.specs.declared.errors.EvalError.TheVariants as error
 
--- what the symbols of the table mean by the theory, and the program by its body
-abbrev pub meaning_of : TheoryTree → SymbolTable → Option OutTree → Meaning
-meaning_of theory table body = record { decls = theory.decls; table = table; body = body }
+-- what the symbols of a program's table mean by the declarations, and the program by its body
+abbrev pub meaning_of : List Decl → ProgramTree → Meaning
+meaning_of ds p = record { decls = ds; table = p.table; body = Some p.body }
+
+-- what the symbols of a table mean by the declarations alone: no program is there
+abbrev pub meaning_over : List Decl → SymbolTable → Meaning
+meaning_over ds table = record { decls = ds; table = table; body = None }
+
+-- The declarations and the program mean the same without the places of their terms: for each bound on the nesting the program's call
+-- gives the same, in as many turns.
+abbrev pub CallsSeeNoPlaces : List Decl → ProgramTree → Type 0
+CallsSeeNoPlaces ds p = (n : ℕ) (values : List ValueTree) → call_of (meaning_of (map bare_decl ds) (bare_program_tree p)) n values ≡ call_of (meaning_of ds p) n values
 
 -- for some bound on the nesting of calls it is this, and took no more than the turns
 pub record IsWithin {A : Type 0} (at : ℕ → Option (Counted A)) (turns : ℕ) (c : Counted A) : Type 0 where

@@ -4,11 +4,12 @@ ghost use Rattle.std.specs.Prelude.{◌≡◌, ◌≤◌, ◌-◌, ◌&&◌, ◌
 ghost use Rattle.std.specs.Option.{option_map};
 ghost use Rattle.syn_term.specs.declared.sorts.Kind.TheVariants as kinds;
 ghost use Rattle.syn_term.specs.Terms.{nodes};
-ghost use Rattle.syn_value.specs.Values.{number_of};
+ghost use Rattle.syn_form.specs.declared.trees.Form.TheVariants as forms;
+ghost use Rattle.syn_form.specs.declared.trees.Form.TheViews as form_views;
 ghost use Rattle.syn_model.specs.Calls.{half, smaller, value_by};
 ghost use Rattle.syn_eval.specs.Ending.{Ends};
 ghost use Rattle.syn_eval.specs.inner.Rules.{rule_seen};
-ghost use Rattle.syn_eval.specs.inner.Scopes.{HasRoom, HaveRoom, ScopeHasRoom, form_in, forms_in, function_at, order_at, out_in, program_at, relation_at, tally_in, term_in, terms_in, truth_in, value_in};
+ghost use Rattle.syn_eval.specs.inner.Scopes.{HasRoom, HaveRoom, ScopeHasRoom, form_in, function_at, number_in, order_at, out_in, program_at, relation_at, tally_in, term_in, terms_in, truth_in, value_in};
 ghost use Rattle.syn_eval.specs.inner.Weights.{AreLight, AreLightForms, all_nodes};
 
 use crate::choosing::choose;
@@ -218,6 +219,57 @@ fn implies(first: bool, second: bool) -> bool
     !first || second
 }
 
+/// The truth value of an atom: the values of its arguments, and the symbol on these.
+#[cycle(eval)]
+fn eval_atom(
+    scope: &Scope<'_, '_>,
+    r: SymId,
+    args: &[Term],
+    turns: u64,
+) -> Result<(bool, u64), EvalError>
+    requires fits { ScopeHasRoom scope.now turns }
+    ensures ends { Ends (form_in scope.now (forms.Atom r args.now)) turns result }
+    ensures within { IfOk result (λ p. p.1 ≤ turns) }
+{
+    let (values, used) = eval_terms(scope, args, turns)?;
+    let (is, more) = ask(scope, r, values.as_slice(), turns - used)?;
+    Ok((is, used + more))
+}
+
+/// The truth value of an equality: both values, and whether they are the same.
+#[cycle(eval)]
+fn eval_equal(
+    scope: &Scope<'_, '_>,
+    first: &Term,
+    second: &Term,
+    turns: u64,
+) -> Result<(bool, u64), EvalError>
+    requires fits { ScopeHasRoom scope.now turns }
+    ensures ends { Ends (form_in scope.now (forms.Equal first.now second.now)) turns result }
+    ensures within { IfOk result (λ p. p.1 ≤ turns) }
+{
+    let (v, used) = eval_term(scope, first, turns)?;
+    let (w, more) = eval_term(scope, second, turns - used)?;
+    Ok((v.same(&w), used + more))
+}
+
+/// The truth value of an implication, whose two sides are both evaluated.
+#[cycle(eval)]
+fn eval_implies(
+    scope: &Scope<'_, '_>,
+    first: &Form,
+    second: &Form,
+    turns: u64,
+) -> Result<(bool, u64), EvalError>
+    requires fits { ScopeHasRoom scope.now turns }
+    ensures ends { Ends (form_in scope.now (form_views.Implies first.now second.now)) turns result }
+    ensures within { IfOk result (λ p. p.1 ≤ turns) }
+{
+    let (x, used) = eval_form(scope, first, turns)?;
+    let (y, more) = eval_form(scope, second, turns - used)?;
+    Ok((implies(x, y), used + more))
+}
+
 /// The truth value of a formula; all members of a connective are evaluated.
 #[cycle(eval)]
 pub(crate) fn eval_form(
@@ -232,16 +284,8 @@ pub(crate) fn eval_form(
     match form {
         Form::True => Ok((true, 0)),
         Form::False => Ok((false, 0)),
-        Form::Atom(r, args) => {
-            let (args, used) = eval_terms(scope, args.get().as_slice(), turns)?;
-            let (is, more) = ask(scope, *r, args.as_slice(), turns - used)?;
-            Ok((is, used + more))
-        }
-        Form::Equal(s, t) => {
-            let (v, used) = eval_term(scope, s, turns)?;
-            let (w, more) = eval_term(scope, t, turns - used)?;
-            Ok((v.same(&w), used + more))
-        }
+        Form::Atom(r, args) => eval_atom(scope, *r, args.get().as_slice(), turns),
+        Form::Equal(first, second) => eval_equal(scope, first, second, turns),
         Form::Not(a) => {
             let (is, used) = eval_form(scope, a.get(), turns)?;
             Ok((!is, used))
@@ -254,11 +298,7 @@ pub(crate) fn eval_form(
             let (tally, used) = eval_forms(scope, all.get().as_slice(), turns)?;
             Ok((tally.any, used))
         }
-        Form::Implies(a, b) => {
-            let (first, used) = eval_form(scope, a.get(), turns)?;
-            let (second, more) = eval_form(scope, b.get(), turns - used)?;
-            Ok((implies(first, second), used + more))
-        }
+        Form::Implies(a, b) => eval_implies(scope, a.get(), b.get(), turns),
     }
 }
 
@@ -348,6 +388,17 @@ fn ask_relation(
     }
 }
 
+/// The number that the term's value is, and the turns that it took; None where the value is no number.
+#[cycle(eval)]
+fn eval_number(scope: &Scope<'_, '_>, t: &Term, turns: u64) -> Result<(Option<u64>, u64), EvalError>
+    requires fits { ScopeHasRoom scope.now turns }
+    ensures ends { Ends (number_in scope.now t.now) turns result }
+    ensures within { IfOk result (λ p. p.1 ≤ turns) }
+{
+    let (v, used) = eval_term(scope, t, turns)?;
+    Ok((v.as_number(), used))
+}
+
 /// Whether the measure of the first half of the values is below that of the second: a turn, and both
 /// measures.
 #[cycle(eval)]
@@ -375,9 +426,9 @@ fn ask_order(
         inputs: &[],
         values: back(args),
     };
-    let (v, used) = eval_term(&first, measure, turns - 1)?;
-    let (w, more) = eval_term(&second, measure, turns - 1 - used)?;
-    match is_below(&v, &w) {
+    let (m, used) = eval_number(&first, measure, turns - 1)?;
+    let (n, more) = eval_number(&second, measure, turns - 1 - used)?;
+    match is_below(m, n) {
         None => Err(EvalError::TurnsSpent),
         Some(is) => Ok((is, 1 + (used + more))),
     }
@@ -405,13 +456,13 @@ fn half(n: usize) -> usize
     n / 2
 }
 
-/// Whether the first number is below the second; None where one of the two is no number.
-fn is_below(v: &Value, w: &Value) -> Option<bool>
-    ensures { option_map (λ b. record { result = b; turns = 0 }) result ≡ smaller (number_of v.now) (number_of w.now) }
+/// Whether the first number is below the second; None where one of the two isn't there.
+fn is_below(first: Option<u64>, second: Option<u64>) -> Option<bool>
+    ensures { option_map (λ b. record { result = b; turns = 0 }) result ≡ smaller first second }
 {
-    match v.as_number() {
+    match first {
         None => None,
-        Some(m) => match w.as_number() {
+        Some(m) => match second {
             None => None,
             Some(n) => Some(m < n),
         },

@@ -16,4 +16,4 @@ mod top;
 mod variables;
 
 pub use errors::EvalError;
-pub use top::{eval_call, holds};
+pub use top::{eval, holds};

@@ -1,10 +1,10 @@
 // Calls with their values and turns, and formulas with their truth values.
-use crate::problems::{args_of, body_of, form_of, spec_of, theory_of};
+use crate::problems::{args_of, form_of, program_of, spec_of, theory_of};
 use std::alloc::Global;
 use std::process::Abort;
 use std::test::Fail;
 use syn_cases::cut;
-use syn_eval::{EvalError, eval_call, holds};
+use syn_eval::{EvalError, eval, holds};
 use syn_model::{Spec, Theory};
 use syn_term::decimal_number;
 use syn_value::print_value;
@@ -84,15 +84,8 @@ fn case_of(line: &str) -> Case<'_> {
 /// The value with its turns, as the table writes it.
 fn called(alloc: Global, theory: &Theory, spec: &Spec, case: &Case<'_>) -> Result<String, Fail> {
     let args = args_of(alloc, spec, case.args)?;
-    let body = body_of(alloc, spec.symbols(), case.text)?;
-    match eval_call(
-        alloc,
-        theory,
-        spec.symbols(),
-        &body,
-        args.as_slice(),
-        case.turns,
-    ) {
+    let program = program_of(alloc, theory, spec, case.text)?;
+    match eval(alloc, theory, &program, args.as_slice(), case.turns) {
         Ok((value, turns)) => {
             let text = print_value(alloc, &value)?;
             Ok(format!(in alloc; "{} in {turns}", text.as_str())?)

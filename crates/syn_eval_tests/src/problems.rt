@@ -6,8 +6,8 @@ use syn_cases::cut;
 use syn_expr::{Scope, read_body, read_form};
 use syn_files::{read_spec, read_theory};
 use syn_form::{Form, Out};
-use syn_model::{Spec, Theory};
-use syn_term::{Bank, Kind, Sort, Symbols};
+use syn_model::{Program, ProgramHead, Spec, Theory};
+use syn_term::{Bank, Sort, SymId, Symbols};
 use syn_value::{Value, read_value};
 
 /// A theory with functions on numbers, lists and pairs, relations and orders.
@@ -62,7 +62,46 @@ pub(crate) fn spec_of(alloc: Global, theory: &Theory, head: &str) -> Result<Spec
     }
 }
 
-pub(crate) fn body_of(alloc: Global, syms: &Symbols, text: &str) -> Result<Out, Fail> {
+/// The name of the symbol and the sort of its values.
+fn input_of(alloc: Global, syms: &Symbols, id: SymId) -> Result<(String, Sort), Fail> {
+    match syms.get(id) {
+        None => Err(Fail::new("no symbol")),
+        Some(sym) => match sym.result {
+            None => Err(Fail::new("no sort")),
+            Some(sort) => Ok((String::from_str(alloc, sym.name.as_str())?, sort)),
+        },
+    }
+}
+
+/// The head of the specification's program, as the head of a program.
+fn head_of(alloc: Global, theory: &Theory, spec: &Spec) -> Result<ProgramHead, Fail> {
+    let (name, result) = input_of(alloc, spec.symbols(), spec.program())?;
+    let mut inputs = Vec::new(alloc);
+    for id in spec.inputs() {
+        inputs.push(input_of(alloc, spec.symbols(), *id)?)?;
+    }
+    match ProgramHead::new(alloc, theory, name.as_str(), inputs.as_slice(), result) {
+        Ok(head) => Ok(head),
+        Err(_) => Err(Fail::new("no head")),
+    }
+}
+
+/// The program with the specification's head and this body.
+pub(crate) fn program_of(
+    alloc: Global,
+    theory: &Theory,
+    spec: &Spec,
+    text: &str,
+) -> Result<Program, Fail> {
+    let head = head_of(alloc, theory, spec)?;
+    let body = body_of(alloc, head.symbols(), text)?;
+    match Program::new(head, body) {
+        Ok(program) => Ok(program),
+        Err(_) => Err(Fail::new("no program")),
+    }
+}
+
+fn body_of(alloc: Global, syms: &Symbols, text: &str) -> Result<Out, Fail> {
     let scope = Scope {
         syms,
         names: &[],

@@ -9,7 +9,7 @@ use Rattle.syn_value.specs.declared.tree.ValueTree.{ValueTree}
 use Rattle.syn_model.specs.Calls.{Meaning, by_function, by_measure, by_relation, chosen, numbered_values, reading_at}
 use Rattle.syn_model.specs.Clausal.{Clause}
 use Rattle.syn_model.specs.Evaluation.{Counted, Environment, Reading, after, evaluate_form, evaluate_out, evaluate_term, together}
-use Rattle.syn_value.specs.Values.{FitsTurns}
+use Rattle.syn_value.specs.Values.{FitsTurns, number_of}
 use Rattle.syn_eval.specs.Ending.{AllFit}
 use Rattle.syn_eval.specs.declared.evaluating.Scope.{Scope}
 use Rattle.syn_eval.specs.declared.evaluating.Tally.{Tally}
@@ -34,6 +34,10 @@ module _ (s : Scope) where
 
   abbrev pub terms_in : List TermTree → ℕ → Option (Counted (List ValueTree))
   terms_in ts n = together (map (evaluate_term (reading_in n) variables_in) ts)
+
+  -- the number that a term's value is
+  abbrev pub number_in : TermTree → ℕ → Option (Counted (Option ℕ))
+  number_in t n = option_map (λ c. record { result = number_of c.result; turns = c.turns }) (term_in t n)
 
   abbrev pub form_in : FormTree → ℕ → Option (Counted Bool)
   form_in f n = evaluate_form (reading_in n) variables_in f

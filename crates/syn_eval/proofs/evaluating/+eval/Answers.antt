@@ -1,13 +1,15 @@
-use Rattle.std.proofs.Common.{◌+◌, ◌-◌, ◌*◌, ◌<◌, ◌≤◌, not, ◌||◌, [], ◌∷◌, ◌++◌, Err, map, refl, sym, ap, subst, ◌∙◌, arith}
+use Rattle.std.proofs.Common.{◌+◌, ◌-◌, ◌*◌, ◌<◌, ◌≤◌, not, ◌||◌, [], ◌∷◌, ◌++◌, Err, map, sum, refl, sym, ap, ap₂, subst, ◌∙◌, arith}
 use Rattle.std.specs.Option.{option_copied, option_map}
 use Rattle.std.proofs.lemmas.Result.{err_from_is_err_and}
 use Rattle.syn_term.specs.Terms.{nodes}
+use Rattle.syn_form.specs.declared.trees.Form.TheVariants as form
+use Rattle.syn_form.specs.declared.trees.Form.TheViews as form_view
 use Rattle.syn_form.specs.Trees.{form_nodes, out_nodes}
-use Rattle.syn_value.specs.Values.{same_value}
+use Rattle.syn_value.specs.Values.{number_of, same_value}
 use Rattle.syn_eval.specs.declared.evaluating.Tally.{Tally}
 use Rattle.syn_eval.specs.Ending.{Ends, IsWithin}
 use Rattle.syn_eval.specs.inner.Rules.{choice_seen, entry_seen, rule_seen}
-use Rattle.syn_eval.specs.inner.Scopes.{form_in, out_in, tally_in, term_in, terms_in, truth_in, value_in}
+use Rattle.syn_eval.specs.inner.Scopes.{form_in, number_in, out_in, tally_in, term_in, terms_in, truth_in, value_in}
 use Rattle.syn_eval.specs.inner.Weights.{all_nodes, weight}
 use Rattle.syn_eval.proofs.Answers.{ends_same, first_fails, made_fails, made_within, second_fails, two_within}
 use Rattle.syn_eval.proofs.CallAnswers.{choice_is, function_fails, function_gives, program_fails, program_gives, relation_fails, relation_gives}
@@ -15,21 +17,21 @@ use Rattle.syn_eval.proofs.EntryAnswers.{constructor_answer, function_answer, in
 use Rattle.syn_eval.proofs.Growing.{form_grows, term_grows, terms_grow, truth_grows, value_grows}
 use Rattle.syn_eval.proofs.Light.{body_is_light, chosen_light}
 use Rattle.syn_eval.proofs.Lists.{forms_fail, forms_next, tally_next, terms_fail, terms_next, terms_none}
-use Rattle.syn_eval.proofs.Measures.{arm_less, ask_less, body_less, call_less, conclusion_less, item_less, second_term_less}
+use Rattle.syn_eval.proofs.Measures.{arm_less, ask_less, atom_less, body_less, call_less, conclusion_less, equal_less, implies_less, item_less, second_term_less}
 use Rattle.syn_eval.proofs.OrderAnswers.{compared_within, first_measure_fails, not_compared, second_measure_fails}
 use Rattle.syn_eval.proofs.Rooms.{chosen_room, drop_rooms, no_rooms, pushed_rooms, rooms_fewer, rooms_same, scope_fewer, scope_rooms, take_rooms, values_rooms, variable_room}
-use Rattle.syn_eval.proofs.Steps.{and_is, app_is, arm_grows, arm_of, atom_is, choice_is as choice_is_if, equal_is, give_is, implied_by, implied_by_grows, implies_is, not_is, or_is, same_as, same_as_grows, told_same}
+use Rattle.syn_eval.proofs.Steps.{and_is, app_is, arm_grows, arm_of, atom_is, choice_is as choice_is_if, equal_is, form_ends, give_is, implied_by, implied_by_grows, implies_is, not_is, or_is, same_as, same_as_grows, told_same}
 use Rattle.syn_eval.proofs.Turns.{turn_less}
 use Rattle.syn_eval.proofs.evaluating.+eval.Goals as goal
 
 pub ask-ask_relation-requires : goal.ask-ask_relation-requires
 ask-ask_relation-requires t c =
-    let less : c.args.turns * weight c.args.scope.now.set.now + 2 < t = omega arith in
+    let less : c.args.turns * weight c.args.scope.now.set.now + 1 < t = omega arith in
     (less, (c.requires.args, known_relations c.args.scope.now.set.now c.args.r (entry_seen c.in-Some.entry.now) (known_fact _ _ _ _ c.in-Some.is c.entry.ensures) _ (ap (map rule_seen) c.as_slice.ensures)))
 
 pub ask-ask_order-requires : goal.ask-ask_order-requires
 ask-ask_order-requires t c =
-    let less : c.args.turns * weight c.args.scope.now.set.now + 2 < t = omega arith in
+    let less : c.args.turns * weight c.args.scope.now.set.now + 1 < t = omega arith in
     (less, (c.requires.args, known_measure c.args.scope.now.set.now c.args.r (entry_seen c.in-Some.entry.now) (known_fact _ _ _ _ c.in-Some.is c.entry.ensures) _ (ap option_copied c.in-Some-measure.is)))
 
 pub ask-returns-in-Rel-clause-ends : goal.ask-returns-in-Rel-clause-ends
@@ -70,7 +72,7 @@ pub ask_relation-eval_form-requires : goal.ask_relation-eval_form-requires
 ask_relation-eval_form-requires t c =
     let e = (choice_is c.in_ok-choose.field-0 c.in-Some.chosen _ _ (map rule_seen c.args.rules.now) c.args.args.now c.in-Some.is c.symbols.ensures c.in_ok-choose.ensures) in
     let light : form_nodes c.in-Some.chosen.body.now ≤ all_nodes c.args.set.now = chosen_light form_nodes (all_nodes c.args.set.now) c.args.set.now.table (map rule_seen c.args.rules.now) c.args.args.now (choice_seen c.in-Some.chosen) e c.requires.light in
-    let k = body_less c.args.set.now c.args.turns (c.args.turns - 1) _ (4 * form_nodes c.in-Some.chosen.body.now) 2 (omega arith) light (omega arith) refl in
+    let k = body_less c.args.set.now c.args.turns (c.args.turns - 1) _ (4 * form_nodes c.in-Some.chosen.body.now) 1 (omega arith) light (omega arith) in
     let less : (c.args.turns - 1) * weight c.args.set.now + 4 * form_nodes c.in-Some.chosen.body.now < t = omega (arith, k) in
     (less, scope_rooms _ (c.args.turns - 1) (no_rooms _ _ refl) (chosen_room c.args.turns (c.args.turns - 1) c.args.set.now.table (map rule_seen c.args.rules.now) c.args.args.now (choice_seen c.in-Some.chosen) _ (omega arith) e c.as_slice.ensures c.requires.args))
 
@@ -86,7 +88,7 @@ pub call_function-eval_out-requires : goal.call_function-eval_out-requires
 call_function-eval_out-requires t c =
     let e = (choice_is c.in_ok-choose.field-0 c.in-Some.chosen _ _ (map rule_seen c.args.rules.now) c.args.args.now c.in-Some.is c.symbols.ensures c.in_ok-choose.ensures) in
     let light : out_nodes c.in-Some.chosen.body.now ≤ all_nodes c.args.set.now = chosen_light out_nodes (all_nodes c.args.set.now) c.args.set.now.table (map rule_seen c.args.rules.now) c.args.args.now (choice_seen c.in-Some.chosen) e c.requires.light in
-    let k = body_less c.args.set.now c.args.turns (c.args.turns - 1) _ (4 * out_nodes c.in-Some.chosen.body.now + 1) 2 (omega arith) light (omega arith) refl in
+    let k = body_less c.args.set.now c.args.turns (c.args.turns - 1) _ (4 * out_nodes c.in-Some.chosen.body.now + 1) 2 (omega arith) light (omega arith) in
     let less : (c.args.turns - 1) * weight c.args.set.now + (4 * out_nodes c.in-Some.chosen.body.now + 1) < t = omega (arith, k) in
     (less, scope_rooms _ (c.args.turns - 1) (no_rooms _ _ refl) (chosen_room c.args.turns (c.args.turns - 1) c.args.set.now.table (map rule_seen c.args.rules.now) c.args.args.now (choice_seen c.in-Some.chosen) _ (omega arith) e c.as_slice.ensures c.requires.args))
 
@@ -101,7 +103,7 @@ call_function-returns-in_ok-value-in-Some-clause-ends t c = function_gives c.arg
 pub call_program-eval_out-requires : goal.call_program-eval_out-requires
 call_program-eval_out-requires t c =
     let e = (sym c.body.ensures ∙ ap option_copied c.in-Some.is) in
-    let k = body_less c.args.set.now c.args.turns (c.args.turns - 1) _ (4 * out_nodes c.in-Some.body.now + 1) 2 (omega arith) (body_is_light c.args.set.now c.in-Some.body.now e) (omega arith) refl in
+    let k = body_less c.args.set.now c.args.turns (c.args.turns - 1) _ (4 * out_nodes c.in-Some.body.now + 1) 2 (omega arith) (body_is_light c.args.set.now c.in-Some.body.now e) (omega arith) in
     let less : (c.args.turns - 1) * weight c.args.set.now + (4 * out_nodes c.in-Some.body.now + 1) < t = omega (arith, k) in
     (less, scope_rooms _ (c.args.turns - 1) (rooms_fewer _ c.args.turns (c.args.turns - 1) (omega arith) c.requires.args) (no_rooms _ _ refl))
 
@@ -176,43 +178,89 @@ eval_out-returns-in-Give-clause-ends t c = ends_same _ _ c.args.turns (give_is c
 pub eval_out-returns-in_ok-value-in-If-clause-ends : goal.eval_out-returns-in_ok-value-in-If-clause-ends
 eval_out-returns-in_ok-value-in-If-clause-ends t c = two_within (form_in c.args.scope.now c.get.result.now) (λ b. out_in c.args.scope.now (arm_of c.args.scope.now c.in-If.first c.in-If.second b)) (out_in c.args.scope.now c.args.out.now) (choice_is_if c.args.scope.now _ _ _ _ _ c.in-If.is c.get.ensures) (form_grows c.args.scope.now c.get.result.now) (arm_grows c.args.scope.now c.in-If.first c.in-If.second) c.args.turns c.in_ok-is-in-If.is' c.in_ok-is-in-If.used _ _ c.in_ok-is-in-If.ensures.ends (subst (λ z. IsWithin (out_in c.args.scope.now z) (c.args.turns - c.in_ok-is-in-If.used) (record { result = c.in_ok-value-in-If.value; turns = c.in_ok-value-in-If.more })) c.arm.ensures c.in_ok-value-in-If.ensures.ends)
 
-pub eval_form-returns-in_err-args-in-Atom-clause-ends : goal.eval_form-returns-in_err-args-in-Atom-clause-ends
-eval_form-returns-in_err-args-in-Atom-clause-ends t c =
+pub eval_atom-returns-in_err-values-clause-ends : goal.eval_atom-returns-in_err-values-clause-ends
+eval_atom-returns-in_err-values-clause-ends t c =
     let p = err_from_is_err_and c.from_residual.result c.from_residual.ensures.1 in
-    rw (p.1, p.2) (first_fails (terms_in c.args.scope.now c.as_slice.result.now) (truth_in c.args.scope.now c.in-Atom.r) (form_in c.args.scope.now c.args.form.now) (atom_is c.args.scope.now _ _ _ _ c.in-Atom.is (c.as_slice.ensures ∙ c.get.ensures)) (terms_grow c.args.scope.now c.as_slice.result.now) (truth_grows c.args.scope.now c.in-Atom.r) c.args.turns _ c.in_err-args-in-Atom.ensures.ends)
+    rw (p.1, p.2) (first_fails (terms_in c.args.scope.now c.args.args.now) (truth_in c.args.scope.now c.args.r) (form_in c.args.scope.now (form.Atom c.args.r c.args.args.now)) (atom_is c.args.scope.now _ _ _ _ refl refl) (terms_grow c.args.scope.now c.args.args.now) (truth_grows c.args.scope.now c.args.r) c.args.turns _ c.in_err-values.ensures.ends)
 
-pub eval_form-ask-requires : goal.eval_form-ask-requires
-eval_form-ask-requires t c =
-    let k = ask_less (weight c.args.scope.now.set.now) c.args.turns (c.args.turns - c.in_ok-args-in-Atom.used) c.args.form.now _ _ c.in-Atom.is (omega arith) in
-    let less : (c.args.turns - c.in_ok-args-in-Atom.used) * weight c.args.scope.now.set.now + 3 < t = omega (arith, k) in
-    (less, (scope_fewer c.args.scope.now c.args.turns _ (omega arith) c.requires.fits, rooms_same _ _ _ (sym c.as_slice-in-Atom.ensures) c.in_ok-args-in-Atom.ensures.fits))
+pub eval_atom-ask-requires : goal.eval_atom-ask-requires
+eval_atom-ask-requires t c =
+    let k = ask_less (weight c.args.scope.now.set.now) c.args.turns (c.args.turns - c.in_ok-values.used) c.args.args.now (omega arith) in
+    let less : (c.args.turns - c.in_ok-values.used) * weight c.args.scope.now.set.now + 2 < t = omega (arith, k) in
+    (less, (scope_fewer c.args.scope.now c.args.turns _ (omega arith) c.requires.fits, rooms_same _ _ _ (sym c.as_slice.ensures) c.in_ok-values.ensures.fits))
 
-pub eval_form-returns-in_err-is-in-Atom-clause-ends : goal.eval_form-returns-in_err-is-in-Atom-clause-ends
-eval_form-returns-in_err-is-in-Atom-clause-ends t c =
-    let p = err_from_is_err_and c.from_residual-in_err-is-in-Atom.result c.from_residual-in_err-is-in-Atom.ensures.1 in
-    rw (p.1, p.2) (second_fails (terms_in c.args.scope.now c.as_slice.result.now) (truth_in c.args.scope.now c.in-Atom.r) (form_in c.args.scope.now c.args.form.now) (atom_is c.args.scope.now _ _ _ _ c.in-Atom.is (c.as_slice.ensures ∙ c.get.ensures)) (terms_grow c.args.scope.now c.as_slice.result.now) (truth_grows c.args.scope.now c.in-Atom.r) c.args.turns c.in_ok-args-in-Atom.args c.in_ok-args-in-Atom.used c.in_ok-args-in-Atom.ensures.ends _ (subst (λ z. Ends (truth_in c.args.scope.now c.in-Atom.r z) (c.args.turns - c.in_ok-args-in-Atom.used) (Err c.in_err-is-in-Atom.field-0.0)) c.as_slice-in-Atom.ensures c.in_err-is-in-Atom.ensures.ends))
+pub eval_atom-returns-in_err-is-clause-ends : goal.eval_atom-returns-in_err-is-clause-ends
+eval_atom-returns-in_err-is-clause-ends t c =
+    let p = err_from_is_err_and c.from_residual-in_err-is.result c.from_residual-in_err-is.ensures.1 in
+    rw (p.1, p.2) (second_fails (terms_in c.args.scope.now c.args.args.now) (truth_in c.args.scope.now c.args.r) (form_in c.args.scope.now (form.Atom c.args.r c.args.args.now)) (atom_is c.args.scope.now _ _ _ _ refl refl) (terms_grow c.args.scope.now c.args.args.now) (truth_grows c.args.scope.now c.args.r) c.args.turns c.in_ok-values.values c.in_ok-values.used c.in_ok-values.ensures.ends _ (subst (λ z. Ends (truth_in c.args.scope.now c.args.r z) (c.args.turns - c.in_ok-values.used) (Err c.in_err-is.field-0.0)) c.as_slice.ensures c.in_err-is.ensures.ends))
 
-pub eval_form-returns-in_ok-is-in-Atom-clause-ends : goal.eval_form-returns-in_ok-is-in-Atom-clause-ends
-eval_form-returns-in_ok-is-in-Atom-clause-ends t c = two_within (terms_in c.args.scope.now c.as_slice.result.now) (truth_in c.args.scope.now c.in-Atom.r) (form_in c.args.scope.now c.args.form.now) (atom_is c.args.scope.now _ _ _ _ c.in-Atom.is (c.as_slice.ensures ∙ c.get.ensures)) (terms_grow c.args.scope.now c.as_slice.result.now) (truth_grows c.args.scope.now c.in-Atom.r) c.args.turns c.in_ok-args-in-Atom.args c.in_ok-args-in-Atom.used _ _ c.in_ok-args-in-Atom.ensures.ends (subst (λ z. IsWithin (truth_in c.args.scope.now c.in-Atom.r z) (c.args.turns - c.in_ok-args-in-Atom.used) (record { result = c.in_ok-is-in-Atom.is'; turns = c.in_ok-is-in-Atom.more })) c.as_slice-in-Atom.ensures c.in_ok-is-in-Atom.ensures.ends)
+pub eval_atom-returns-in_ok-is-clause-ends : goal.eval_atom-returns-in_ok-is-clause-ends
+eval_atom-returns-in_ok-is-clause-ends t c = two_within (terms_in c.args.scope.now c.args.args.now) (truth_in c.args.scope.now c.args.r) (form_in c.args.scope.now (form.Atom c.args.r c.args.args.now)) (atom_is c.args.scope.now _ _ _ _ refl refl) (terms_grow c.args.scope.now c.args.args.now) (truth_grows c.args.scope.now c.args.r) c.args.turns c.in_ok-values.values c.in_ok-values.used _ _ c.in_ok-values.ensures.ends (subst (λ z. IsWithin (truth_in c.args.scope.now c.args.r z) (c.args.turns - c.in_ok-values.used) (record { result = c.in_ok-is.is'; turns = c.in_ok-is.more })) c.as_slice.ensures c.in_ok-is.ensures.ends)
 
-pub eval_form-returns-in_err-v-in-Equal-clause-ends : goal.eval_form-returns-in_err-v-in-Equal-clause-ends
-eval_form-returns-in_err-v-in-Equal-clause-ends t c =
-    let p = err_from_is_err_and c.from_residual-in_err-v-in-Equal.result c.from_residual-in_err-v-in-Equal.ensures.1 in
-    rw (p.1, p.2) (first_fails (term_in c.args.scope.now c.in-Equal.s) (same_as c.args.scope.now c.in-Equal.t) (form_in c.args.scope.now c.args.form.now) (equal_is c.args.scope.now _ _ _ c.in-Equal.is) (term_grows c.args.scope.now c.in-Equal.s) (same_as_grows c.args.scope.now c.in-Equal.t) c.args.turns _ c.in_err-v-in-Equal.ensures.ends)
+pub eval_equal-returns-in_err-v-clause-ends : goal.eval_equal-returns-in_err-v-clause-ends
+eval_equal-returns-in_err-v-clause-ends t c =
+    let p = err_from_is_err_and c.from_residual.result c.from_residual.ensures.1 in
+    rw (p.1, p.2) (first_fails (term_in c.args.scope.now c.args.first.now) (same_as c.args.scope.now c.args.second.now) (form_in c.args.scope.now (form.Equal c.args.first.now c.args.second.now)) (equal_is c.args.scope.now _ _ _ refl) (term_grows c.args.scope.now c.args.first.now) (same_as_grows c.args.scope.now c.args.second.now) c.args.turns _ c.in_err-v.ensures.ends)
 
-pub eval_form-eval_term-requires-in-Equal : goal.eval_form-eval_term-requires-in-Equal
-eval_form-eval_term-requires-in-Equal t c =
-    let k = second_term_less (weight c.args.scope.now.set.now) c.args.turns (c.args.turns - c.in_ok-v-in-Equal.used) c.args.form.now _ c.in-Equal.t c.in-Equal.is (omega arith) in
-    let less : (c.args.turns - c.in_ok-v-in-Equal.used) * weight c.args.scope.now.set.now + 4 * nodes c.in-Equal.t < t = omega (arith, k) in
+pub eval_equal-eval_term-requires-2 : goal.eval_equal-eval_term-requires-2
+eval_equal-eval_term-requires-2 t c =
+    let k = second_term_less (weight c.args.scope.now.set.now) c.args.turns (c.args.turns - c.in_ok-v.used) c.args.first.now c.args.second.now (omega arith) in
+    let less : (c.args.turns - c.in_ok-v.used) * weight c.args.scope.now.set.now + 4 * nodes c.args.second.now < t = omega (arith, k) in
     (less, scope_fewer c.args.scope.now c.args.turns _ (omega arith) c.requires.fits)
 
-pub eval_form-returns-in_err-w-in-Equal-clause-ends : goal.eval_form-returns-in_err-w-in-Equal-clause-ends
-eval_form-returns-in_err-w-in-Equal-clause-ends t c =
-    let p = err_from_is_err_and c.from_residual-in_err-w-in-Equal.result c.from_residual-in_err-w-in-Equal.ensures.1 in
-    rw (p.1, p.2) (second_fails (term_in c.args.scope.now c.in-Equal.s) (same_as c.args.scope.now c.in-Equal.t) (form_in c.args.scope.now c.args.form.now) (equal_is c.args.scope.now _ _ _ c.in-Equal.is) (term_grows c.args.scope.now c.in-Equal.s) (same_as_grows c.args.scope.now c.in-Equal.t) c.args.turns c.in_ok-v-in-Equal.v c.in_ok-v-in-Equal.used c.in_ok-v-in-Equal.ensures.ends _ (made_fails (same_value c.in_ok-v-in-Equal.v) (term_in c.args.scope.now c.in-Equal.t) _ _ c.in_err-w-in-Equal.ensures.ends))
+pub eval_equal-returns-in_err-w-clause-ends : goal.eval_equal-returns-in_err-w-clause-ends
+eval_equal-returns-in_err-w-clause-ends t c =
+    let p = err_from_is_err_and c.from_residual-in_err-w.result c.from_residual-in_err-w.ensures.1 in
+    rw (p.1, p.2) (second_fails (term_in c.args.scope.now c.args.first.now) (same_as c.args.scope.now c.args.second.now) (form_in c.args.scope.now (form.Equal c.args.first.now c.args.second.now)) (equal_is c.args.scope.now _ _ _ refl) (term_grows c.args.scope.now c.args.first.now) (same_as_grows c.args.scope.now c.args.second.now) c.args.turns c.in_ok-v.v c.in_ok-v.used c.in_ok-v.ensures.ends _ (made_fails (same_value c.in_ok-v.v) (term_in c.args.scope.now c.args.second.now) _ _ c.in_err-w.ensures.ends))
 
-pub eval_form-returns-in_ok-w-in-Equal-clause-ends : goal.eval_form-returns-in_ok-w-in-Equal-clause-ends
-eval_form-returns-in_ok-w-in-Equal-clause-ends t c = two_within (term_in c.args.scope.now c.in-Equal.s) (same_as c.args.scope.now c.in-Equal.t) (form_in c.args.scope.now c.args.form.now) (equal_is c.args.scope.now _ _ _ c.in-Equal.is) (term_grows c.args.scope.now c.in-Equal.s) (same_as_grows c.args.scope.now c.in-Equal.t) c.args.turns c.in_ok-v-in-Equal.v c.in_ok-v-in-Equal.used _ _ c.in_ok-v-in-Equal.ensures.ends (told_same c.args.scope.now c.in-Equal.t c.in_ok-v-in-Equal.v c.in_ok-w-in-Equal.w _ _ c.same.result c.same.ensures c.in_ok-w-in-Equal.ensures.ends)
+pub eval_equal-returns-in_ok-w-clause-ends : goal.eval_equal-returns-in_ok-w-clause-ends
+eval_equal-returns-in_ok-w-clause-ends t c = two_within (term_in c.args.scope.now c.args.first.now) (same_as c.args.scope.now c.args.second.now) (form_in c.args.scope.now (form.Equal c.args.first.now c.args.second.now)) (equal_is c.args.scope.now _ _ _ refl) (term_grows c.args.scope.now c.args.first.now) (same_as_grows c.args.scope.now c.args.second.now) c.args.turns c.in_ok-v.v c.in_ok-v.used _ _ c.in_ok-v.ensures.ends (told_same c.args.scope.now c.args.second.now c.in_ok-v.v c.in_ok-w.w _ _ c.same.result c.same.ensures c.in_ok-w.ensures.ends)
+
+pub eval_implies-returns-in_err-x-clause-ends : goal.eval_implies-returns-in_err-x-clause-ends
+eval_implies-returns-in_err-x-clause-ends t c =
+    let p = err_from_is_err_and c.from_residual.result c.from_residual.ensures.1 in
+    rw (p.1, p.2) (first_fails (form_in c.args.scope.now c.args.first.now) (implied_by c.args.scope.now c.args.second.now) (form_in c.args.scope.now (form_view.Implies c.args.first.now c.args.second.now)) (implies_is c.args.scope.now _ _ _ _ _ refl refl refl) (form_grows c.args.scope.now c.args.first.now) (implied_by_grows c.args.scope.now c.args.second.now) c.args.turns _ c.in_err-x.ensures.ends)
+
+pub eval_implies-eval_form-requires-2 : goal.eval_implies-eval_form-requires-2
+eval_implies-eval_form-requires-2 t c =
+    let k = conclusion_less (weight c.args.scope.now.set.now) c.args.turns (c.args.turns - c.in_ok-x.used) c.args.first.now c.args.second.now (omega arith) in
+    let less : (c.args.turns - c.in_ok-x.used) * weight c.args.scope.now.set.now + 4 * form_nodes c.args.second.now < t = omega (arith, k) in
+    (less, scope_fewer c.args.scope.now c.args.turns _ (omega arith) c.requires.fits)
+
+pub eval_implies-returns-in_err-y-clause-ends : goal.eval_implies-returns-in_err-y-clause-ends
+eval_implies-returns-in_err-y-clause-ends t c =
+    let p = err_from_is_err_and c.from_residual-in_err-y.result c.from_residual-in_err-y.ensures.1 in
+    rw (p.1, p.2) (second_fails (form_in c.args.scope.now c.args.first.now) (implied_by c.args.scope.now c.args.second.now) (form_in c.args.scope.now (form_view.Implies c.args.first.now c.args.second.now)) (implies_is c.args.scope.now _ _ _ _ _ refl refl refl) (form_grows c.args.scope.now c.args.first.now) (implied_by_grows c.args.scope.now c.args.second.now) c.args.turns c.in_ok-x.x c.in_ok-x.used c.in_ok-x.ensures.ends _ (made_fails (λ y. not c.in_ok-x.x || y) (form_in c.args.scope.now c.args.second.now) _ _ c.in_err-y.ensures.ends))
+
+pub eval_implies-returns-in_ok-y-clause-ends : goal.eval_implies-returns-in_ok-y-clause-ends
+eval_implies-returns-in_ok-y-clause-ends t c = two_within (form_in c.args.scope.now c.args.first.now) (implied_by c.args.scope.now c.args.second.now) (form_in c.args.scope.now (form_view.Implies c.args.first.now c.args.second.now)) (implies_is c.args.scope.now _ _ _ _ _ refl refl refl) (form_grows c.args.scope.now c.args.first.now) (implied_by_grows c.args.scope.now c.args.second.now) c.args.turns c.in_ok-x.x c.in_ok-x.used _ _ c.in_ok-x.ensures.ends (subst (λ z. IsWithin (implied_by c.args.scope.now c.args.second.now c.in_ok-x.x) (c.args.turns - c.in_ok-x.used) (record { result = z; turns = c.in_ok-y.more })) (sym c.implies.ensures) (made_within (λ y. not c.in_ok-x.x || y) (form_in c.args.scope.now c.args.second.now) (c.args.turns - c.in_ok-x.used) c.in_ok-y.y c.in_ok-y.more c.in_ok-y.ensures.ends))
+
+pub eval_form-eval_atom-requires : goal.eval_form-eval_atom-requires
+eval_form-eval_atom-requires t c =
+    let k = atom_less (weight c.args.scope.now.set.now) c.args.turns c.args.form.now _ _ c.as_slice.result.now c.in-Atom.is (c.as_slice.ensures ∙ c.get.ensures) in
+    let less : c.args.turns * weight c.args.scope.now.set.now + (4 * sum (map nodes c.as_slice.result.now) + 3) < t = omega (arith, k) in
+    (less, c.requires.fits)
+
+pub eval_form-eval_equal-requires : goal.eval_form-eval_equal-requires
+eval_form-eval_equal-requires t c =
+    let k = equal_less (weight c.args.scope.now.set.now) c.args.turns c.args.form.now c.in-Equal.first c.in-Equal.second c.in-Equal.is in
+    let less : c.args.turns * weight c.args.scope.now.set.now + (4 * (nodes c.in-Equal.first + nodes c.in-Equal.second) + 1) < t = omega (arith, k) in
+    (less, c.requires.fits)
+
+pub eval_form-eval_implies-requires : goal.eval_form-eval_implies-requires
+eval_form-eval_implies-requires t c =
+    let k = implies_less (weight c.args.scope.now.set.now) c.args.turns c.args.form.now _ _ c.get-in-Implies.result.now c.get-in-Implies-2.result.now c.in-Implies.is c.get-in-Implies.ensures c.get-in-Implies-2.ensures in
+    let less : c.args.turns * weight c.args.scope.now.set.now + (4 * (form_nodes c.get-in-Implies.result.now + form_nodes c.get-in-Implies-2.result.now) + 1) < t = omega (arith, k) in
+    (less, c.requires.fits)
+
+pub eval_form-returns-in-Atom-clause-ends : goal.eval_form-returns-in-Atom-clause-ends
+eval_form-returns-in-Atom-clause-ends t c = form_ends c.args.scope.now c.args.turns _ _ _ (c.in-Atom.is ∙ ap (form.Atom c.in-Atom.r) (sym (c.as_slice.ensures ∙ c.get.ensures))) c.eval_atom.ensures.ends
+
+pub eval_form-returns-in-Equal-clause-ends : goal.eval_form-returns-in-Equal-clause-ends
+eval_form-returns-in-Equal-clause-ends t c = form_ends c.args.scope.now c.args.turns _ _ _ c.in-Equal.is c.eval_equal.ensures.ends
+
+pub eval_form-returns-in-Implies-clause-ends : goal.eval_form-returns-in-Implies-clause-ends
+eval_form-returns-in-Implies-clause-ends t c = form_ends c.args.scope.now c.args.turns _ _ _ (c.in-Implies.is ∙ ap₂ form_view.Implies (sym c.get-in-Implies.ensures) (sym c.get-in-Implies-2.ensures)) c.eval_implies.ensures.ends
 
 pub eval_form-returns-in_err-is-in-Not-clause-ends : goal.eval_form-returns-in_err-is-in-Not-clause-ends
 eval_form-returns-in_err-is-in-Not-clause-ends t c =
@@ -228,25 +276,6 @@ pub eval_form-returns-in_err-tally-in-Or-clause-ends : goal.eval_form-returns-in
 eval_form-returns-in_err-tally-in-Or-clause-ends t c =
     let p = err_from_is_err_and c.from_residual-in_err-tally-in-Or.result c.from_residual-in_err-tally-in-Or.ensures.1 in
     rw (p.1, p.2) (ends_same _ _ c.args.turns (or_is c.args.scope.now _ _ _ c.in-Or.is (c.as_slice-in-Or.ensures ∙ c.get-in-Or.ensures)) (Err c.in_err-tally-in-Or.field-0.0) (made_fails (λ (z : Tally). z.any) (tally_in c.args.scope.now c.as_slice-in-Or.result.now) _ _ c.in_err-tally-in-Or.ensures.ends))
-
-pub eval_form-returns-in_err-first-in-Implies-clause-ends : goal.eval_form-returns-in_err-first-in-Implies-clause-ends
-eval_form-returns-in_err-first-in-Implies-clause-ends t c =
-    let p = err_from_is_err_and c.from_residual-in_err-first-in-Implies.result c.from_residual-in_err-first-in-Implies.ensures.1 in
-    rw (p.1, p.2) (first_fails (form_in c.args.scope.now c.get-in-Implies.result.now) (implied_by c.args.scope.now c.in-Implies.b) (form_in c.args.scope.now c.args.form.now) (implies_is c.args.scope.now _ _ _ _ _ c.in-Implies.is c.get-in-Implies.ensures refl) (form_grows c.args.scope.now c.get-in-Implies.result.now) (implied_by_grows c.args.scope.now c.in-Implies.b) c.args.turns _ c.in_err-first-in-Implies.ensures.ends)
-
-pub eval_form-eval_form-requires-in-Implies-2 : goal.eval_form-eval_form-requires-in-Implies-2
-eval_form-eval_form-requires-in-Implies-2 t c =
-    let k = conclusion_less (weight c.args.scope.now.set.now) c.args.turns (c.args.turns - c.in_ok-first-in-Implies.used) c.args.form.now _ _ c.get-in-Implies-2.result.now c.in-Implies.is c.get-in-Implies-2.ensures (omega arith) in
-    let less : (c.args.turns - c.in_ok-first-in-Implies.used) * weight c.args.scope.now.set.now + 4 * form_nodes c.get-in-Implies-2.result.now < t = omega (arith, k) in
-    (less, scope_fewer c.args.scope.now c.args.turns _ (omega arith) c.requires.fits)
-
-pub eval_form-returns-in_err-second-in-Implies-clause-ends : goal.eval_form-returns-in_err-second-in-Implies-clause-ends
-eval_form-returns-in_err-second-in-Implies-clause-ends t c =
-    let p = err_from_is_err_and c.from_residual-in_err-second-in-Implies.result c.from_residual-in_err-second-in-Implies.ensures.1 in
-    rw (p.1, p.2) (second_fails (form_in c.args.scope.now c.get-in-Implies.result.now) (implied_by c.args.scope.now c.in-Implies.b) (form_in c.args.scope.now c.args.form.now) (implies_is c.args.scope.now _ _ _ _ _ c.in-Implies.is c.get-in-Implies.ensures refl) (form_grows c.args.scope.now c.get-in-Implies.result.now) (implied_by_grows c.args.scope.now c.in-Implies.b) c.args.turns c.in_ok-first-in-Implies.first c.in_ok-first-in-Implies.used c.in_ok-first-in-Implies.ensures.ends _ (made_fails (λ y. not c.in_ok-first-in-Implies.first || y) (form_in c.args.scope.now c.in-Implies.b) _ _ (subst (λ z. Ends (form_in c.args.scope.now z) (c.args.turns - c.in_ok-first-in-Implies.used) (Err c.in_err-second-in-Implies.field-0.0)) c.get-in-Implies-2.ensures c.in_err-second-in-Implies.ensures.ends)))
-
-pub eval_form-returns-in_ok-second-in-Implies-clause-ends : goal.eval_form-returns-in_ok-second-in-Implies-clause-ends
-eval_form-returns-in_ok-second-in-Implies-clause-ends t c = two_within (form_in c.args.scope.now c.get-in-Implies.result.now) (implied_by c.args.scope.now c.in-Implies.b) (form_in c.args.scope.now c.args.form.now) (implies_is c.args.scope.now _ _ _ _ _ c.in-Implies.is c.get-in-Implies.ensures refl) (form_grows c.args.scope.now c.get-in-Implies.result.now) (implied_by_grows c.args.scope.now c.in-Implies.b) c.args.turns c.in_ok-first-in-Implies.first c.in_ok-first-in-Implies.used _ _ c.in_ok-first-in-Implies.ensures.ends (subst (λ z. IsWithin (implied_by c.args.scope.now c.in-Implies.b c.in_ok-first-in-Implies.first) (c.args.turns - c.in_ok-first-in-Implies.used) (record { result = z; turns = c.in_ok-second-in-Implies.more })) (sym c.implies.ensures) (made_within (λ y. not c.in_ok-first-in-Implies.first || y) (form_in c.args.scope.now c.in-Implies.b) (c.args.turns - c.in_ok-first-in-Implies.used) c.in_ok-second-in-Implies.second c.in_ok-second-in-Implies.more (subst (λ z. IsWithin (form_in c.args.scope.now z) (c.args.turns - c.in_ok-first-in-Implies.used) (record { result = c.in_ok-second-in-Implies.second; turns = c.in_ok-second-in-Implies.more })) c.get-in-Implies-2.ensures c.in_ok-second-in-Implies.ensures.ends)))
 
 pub eval_forms-eval_form-requires : goal.eval_forms-eval_form-requires
 eval_forms-eval_form-requires t c =
@@ -269,30 +298,38 @@ eval_forms-loop-form-preserved t c = (
   },
 )
 
-pub ask_order-eval_term-requires : goal.ask_order-eval_term-requires
-ask_order-eval_term-requires t c =
-    let k = turn_less (c.args.turns - 1) c.args.turns (weight c.args.set.now) (4 * nodes c.args.measure.now) 2 (omega arith) (omega (arith, c.requires.light)) in
-    let less : (c.args.turns - 1) * weight c.args.set.now + 4 * nodes c.args.measure.now < t = omega (arith, k) in
+pub eval_number-returns-in_err-v-clause-ends : goal.eval_number-returns-in_err-v-clause-ends
+eval_number-returns-in_err-v-clause-ends t c =
+    let p = err_from_is_err_and c.from_residual.result c.from_residual.ensures.1 in
+    rw (p.1, p.2) (made_fails number_of (term_in c.args.scope.now c.args.t.now) _ _ c.in_err-v.ensures.ends)
+
+pub eval_number-returns-in_ok-v-clause-ends : goal.eval_number-returns-in_ok-v-clause-ends
+eval_number-returns-in_ok-v-clause-ends t c = subst (λ z. IsWithin (number_in c.args.scope.now c.args.t.now) c.args.turns (record { result = z; turns = c.in_ok-v.used })) (sym c.as_number.ensures) (made_within number_of (term_in c.args.scope.now c.args.t.now) c.args.turns c.in_ok-v.v c.in_ok-v.used c.in_ok-v.ensures.ends)
+
+pub ask_order-eval_number-requires : goal.ask_order-eval_number-requires
+ask_order-eval_number-requires t c =
+    let k = turn_less (c.args.turns - 1) c.args.turns (weight c.args.set.now) (4 * nodes c.args.measure.now + 1) 1 (omega arith) (omega (arith, c.requires.light)) in
+    let less : (c.args.turns - 1) * weight c.args.set.now + (4 * nodes c.args.measure.now + 1) < t = omega (arith, k) in
     (less, scope_rooms _ (c.args.turns - 1) (no_rooms _ _ refl) (rooms_fewer _ c.args.turns (c.args.turns - 1) (omega arith) (take_rooms c.args.turns _ _ _ c.front.ensures c.requires.args)))
 
-pub ask_order-returns-in_err-v-clause-ends : goal.ask_order-returns-in_err-v-clause-ends
-ask_order-returns-in_err-v-clause-ends t c =
+pub ask_order-returns-in_err-m-clause-ends : goal.ask_order-returns-in_err-m-clause-ends
+ask_order-returns-in_err-m-clause-ends t c =
     let p = err_from_is_err_and c.from_residual.result c.from_residual.ensures.1 in
-    rw (p.1, p.2) (first_measure_fails c.args.set.now c.args.measure.now c.args.args.now (record { set = c.args.set; inputs = record { ref_ptr = c.args.args.ref_ptr; now = [] }; values = c.front.result }) (record { set = c.args.set; inputs = record { ref_ptr = c.args.args.ref_ptr; now = [] }; values = c.back.result }) (record { set = refl; inputs_are = refl; values_are = c.front.ensures }) (record { set = refl; inputs_are = refl; values_are = c.back.ensures }) c.args.turns (omega arith) _ c.in_err-v.ensures.ends)
+    rw (p.1, p.2) (first_measure_fails c.args.set.now c.args.measure.now c.args.args.now (record { set = c.args.set; inputs = record { ref_ptr = c.args.args.ref_ptr; now = [] }; values = c.front.result }) (record { set = c.args.set; inputs = record { ref_ptr = c.args.args.ref_ptr; now = [] }; values = c.back.result }) (record { set = refl; inputs_are = refl; values_are = c.front.ensures }) (record { set = refl; inputs_are = refl; values_are = c.back.ensures }) c.args.turns (omega arith) _ c.in_err-m.ensures.ends)
 
-pub ask_order-eval_term-requires-2 : goal.ask_order-eval_term-requires-2
-ask_order-eval_term-requires-2 t c =
-    let k = turn_less ((c.args.turns - 1) - c.in_ok-v.used) c.args.turns (weight c.args.set.now) (4 * nodes c.args.measure.now) 2 (omega arith) (omega (arith, c.requires.light)) in
-    let less : ((c.args.turns - 1) - c.in_ok-v.used) * weight c.args.set.now + 4 * nodes c.args.measure.now < t = omega (arith, k) in
-    (less, scope_rooms _ ((c.args.turns - 1) - c.in_ok-v.used) (no_rooms _ _ refl) (rooms_fewer _ c.args.turns ((c.args.turns - 1) - c.in_ok-v.used) (omega arith) (drop_rooms c.args.turns _ _ _ c.back.ensures c.requires.args)))
+pub ask_order-eval_number-requires-2 : goal.ask_order-eval_number-requires-2
+ask_order-eval_number-requires-2 t c =
+    let k = turn_less ((c.args.turns - 1) - c.in_ok-m.used) c.args.turns (weight c.args.set.now) (4 * nodes c.args.measure.now + 1) 1 (omega arith) (omega (arith, c.requires.light)) in
+    let less : ((c.args.turns - 1) - c.in_ok-m.used) * weight c.args.set.now + (4 * nodes c.args.measure.now + 1) < t = omega (arith, k) in
+    (less, scope_rooms _ ((c.args.turns - 1) - c.in_ok-m.used) (no_rooms _ _ refl) (rooms_fewer _ c.args.turns ((c.args.turns - 1) - c.in_ok-m.used) (omega arith) (drop_rooms c.args.turns _ _ _ c.back.ensures c.requires.args)))
 
-pub ask_order-returns-in_err-w-clause-ends : goal.ask_order-returns-in_err-w-clause-ends
-ask_order-returns-in_err-w-clause-ends t c =
-    let p = err_from_is_err_and c.from_residual-in_err-w.result c.from_residual-in_err-w.ensures.1 in
-    rw (p.1, p.2) (second_measure_fails c.args.set.now c.args.measure.now c.args.args.now (record { set = c.args.set; inputs = record { ref_ptr = c.args.args.ref_ptr; now = [] }; values = c.front.result }) (record { set = c.args.set; inputs = record { ref_ptr = c.args.args.ref_ptr; now = [] }; values = c.back.result }) (record { set = refl; inputs_are = refl; values_are = c.front.ensures }) (record { set = refl; inputs_are = refl; values_are = c.back.ensures }) c.args.turns (omega arith) c.in_ok-v.v c.in_ok-v.used c.in_ok-v.ensures.ends _ c.in_err-w.ensures.ends)
+pub ask_order-returns-in_err-n-clause-ends : goal.ask_order-returns-in_err-n-clause-ends
+ask_order-returns-in_err-n-clause-ends t c =
+    let p = err_from_is_err_and c.from_residual-in_err-n.result c.from_residual-in_err-n.ensures.1 in
+    rw (p.1, p.2) (second_measure_fails c.args.set.now c.args.measure.now c.args.args.now (record { set = c.args.set; inputs = record { ref_ptr = c.args.args.ref_ptr; now = [] }; values = c.front.result }) (record { set = c.args.set; inputs = record { ref_ptr = c.args.args.ref_ptr; now = [] }; values = c.back.result }) (record { set = refl; inputs_are = refl; values_are = c.front.ensures }) (record { set = refl; inputs_are = refl; values_are = c.back.ensures }) c.args.turns (omega arith) c.in_ok-m.m c.in_ok-m.used c.in_ok-m.ensures.ends _ c.in_err-n.ensures.ends)
 
 pub ask_order-returns-in-None-clause-ends : goal.ask_order-returns-in-None-clause-ends
-ask_order-returns-in-None-clause-ends t c = not_compared c.args.set.now c.args.measure.now c.args.args.now (record { set = c.args.set; inputs = record { ref_ptr = c.args.args.ref_ptr; now = [] }; values = c.front.result }) (record { set = c.args.set; inputs = record { ref_ptr = c.args.args.ref_ptr; now = [] }; values = c.back.result }) (record { set = refl; inputs_are = refl; values_are = c.front.ensures }) (record { set = refl; inputs_are = refl; values_are = c.back.ensures }) c.args.turns (omega arith) c.in_ok-v.v c.in_ok-v.used c.in_ok-v.ensures.ends c.in_ok-w.w c.in_ok-w.more c.in_ok-w.ensures.ends (sym c.is_below.ensures ∙ ap (option_map (λ b. record { result = b; turns = 0 })) c.in-None.is)
+ask_order-returns-in-None-clause-ends t c = not_compared c.args.set.now c.args.measure.now c.args.args.now (record { set = c.args.set; inputs = record { ref_ptr = c.args.args.ref_ptr; now = [] }; values = c.front.result }) (record { set = c.args.set; inputs = record { ref_ptr = c.args.args.ref_ptr; now = [] }; values = c.back.result }) (record { set = refl; inputs_are = refl; values_are = c.front.ensures }) (record { set = refl; inputs_are = refl; values_are = c.back.ensures }) c.args.turns (omega arith) c.in_ok-m.m c.in_ok-m.used c.in_ok-m.ensures.ends c.in_ok-n.n c.in_ok-n.more c.in_ok-n.ensures.ends (sym c.is_below.ensures ∙ ap (option_map (λ b. record { result = b; turns = 0 })) c.in-None.is)
 
 pub ask_order-returns-clause-ends : goal.ask_order-returns-clause-ends
-ask_order-returns-clause-ends t c = compared_within c.args.set.now c.args.measure.now c.args.args.now (record { set = c.args.set; inputs = record { ref_ptr = c.args.args.ref_ptr; now = [] }; values = c.front.result }) (record { set = c.args.set; inputs = record { ref_ptr = c.args.args.ref_ptr; now = [] }; values = c.back.result }) (record { set = refl; inputs_are = refl; values_are = c.front.ensures }) (record { set = refl; inputs_are = refl; values_are = c.back.ensures }) c.args.turns (omega arith) c.in_ok-v.v c.in_ok-v.used c.in_ok-v.ensures.ends c.in_ok-w.w c.in_ok-w.more c.in_ok-w.ensures.ends _ (sym c.is_below.ensures ∙ ap (option_map (λ b. record { result = b; turns = 0 })) c.in-Some.is)
+ask_order-returns-clause-ends t c = compared_within c.args.set.now c.args.measure.now c.args.args.now (record { set = c.args.set; inputs = record { ref_ptr = c.args.args.ref_ptr; now = [] }; values = c.front.result }) (record { set = c.args.set; inputs = record { ref_ptr = c.args.args.ref_ptr; now = [] }; values = c.back.result }) (record { set = refl; inputs_are = refl; values_are = c.front.ensures }) (record { set = refl; inputs_are = refl; values_are = c.back.ensures }) c.args.turns (omega arith) c.in_ok-m.m c.in_ok-m.used c.in_ok-m.ensures.ends c.in_ok-n.n c.in_ok-n.more c.in_ok-n.ensures.ends _ (sym c.is_below.ensures ∙ ap (option_map (λ b. record { result = b; turns = 0 })) c.in-Some.is)

@@ -27,6 +27,18 @@ decreases-call_program l = l.turns * weight l.set.now + 2
 abbrev pub decreases-eval_out : goal.decreases-eval_out
 decreases-eval_out l = l.turns * weight l.scope.now.set.now + (4 * out_nodes l.out.now + 1)
 
+abbrev pub decreases-eval_atom : goal.decreases-eval_atom
+decreases-eval_atom l = l.turns * weight l.scope.now.set.now + (4 * sum (map nodes l.args.now) + 3)
+
+abbrev pub decreases-eval_equal : goal.decreases-eval_equal
+decreases-eval_equal l = l.turns * weight l.scope.now.set.now + (4 * (nodes l.first.now + nodes l.second.now) + 1)
+
+abbrev pub decreases-eval_implies : goal.decreases-eval_implies
+decreases-eval_implies l = l.turns * weight l.scope.now.set.now + (4 * (form_nodes l.first.now + form_nodes l.second.now) + 1)
+
+abbrev pub decreases-eval_number : goal.decreases-eval_number
+decreases-eval_number l = l.turns * weight l.scope.now.set.now + (4 * nodes l.t.now + 1)
+
 abbrev pub decreases-eval_form : goal.decreases-eval_form
 decreases-eval_form l = l.turns * weight l.scope.now.set.now + 4 * form_nodes l.form.now
 
@@ -34,13 +46,13 @@ abbrev pub decreases-eval_forms : goal.decreases-eval_forms
 decreases-eval_forms l = l.turns * weight l.scope.now.set.now + (4 * sum (map form_nodes l.forms.now) + 1)
 
 abbrev pub decreases-ask : goal.decreases-ask
-decreases-ask l = l.turns * weight l.scope.now.set.now + 3
+decreases-ask l = l.turns * weight l.scope.now.set.now + 2
 
 abbrev pub decreases-ask_relation : goal.decreases-ask_relation
-decreases-ask_relation l = l.turns * weight l.set.now + 2
+decreases-ask_relation l = l.turns * weight l.set.now + 1
 
 abbrev pub decreases-ask_order : goal.decreases-ask_order
-decreases-ask_order l = l.turns * weight l.set.now + 2
+decreases-ask_order l = l.turns * weight l.set.now + 1
 
 -- the values so far are those of the terms so far, within the turns that they took
 abbrev pub invariant-eval_terms-loop-t : goal.invariant-eval_terms-loop-t
