@@ -1,12 +1,13 @@
 -- What is answered of a symbol, where its entry tells which call it is; and that no body of its is too large.
 use Rattle.std.proofs.Common.{◌≡◌, ℕ, ◌≤◌, Bool, List, [], Option, None, Some, Result, Bor, refl, sym, ap, subst, ◌∙◌}
 use Rattle.std.specs.Option.{option_map}
+use Rattle.std.proofs.lemmas.List.Elements.{All-nil}
 use Rattle.syn_term.specs.declared.sorts.Kind.{Kind}
 use Rattle.syn_term.specs.declared.sorts.Kind.TheVariants as kind
 use Rattle.syn_term.specs.declared.sorts.SymId.{SymId}
 use Rattle.syn_term.specs.Symbols.{symbol_at}
 use Rattle.syn_term.specs.Terms.{TermTree, nodes}
-use Rattle.syn_form.specs.Trees.{FormTree, OutTree}
+use Rattle.syn_form.specs.Trees.{FormTree, OutTree, form_nodes, out_nodes}
 use Rattle.syn_value.specs.declared.tree.ValueTree.{ValueTree}
 use Rattle.syn_model.specs.Calls.{Meaning, constructed, reading_at, truth_by, value_by}
 use Rattle.syn_model.specs.Clausal.{Clause}
@@ -16,7 +17,7 @@ use Rattle.syn_eval.specs.Ending.{Ends, IsSpent}
 use Rattle.syn_term.specs.declared.sorts.Sym.{Sym}
 use Rattle.syn_model.specs.declared.decl.Decl.{Decl}
 use Rattle.syn_eval.specs.declared.entries.Entry.{Entry}
-use Rattle.syn_eval.specs.inner.Rules.{Known, entry_seen, known_of}
+use Rattle.syn_eval.specs.inner.Rules.{Known, entry_seen, known_by, known_of}
 use Rattle.syn_eval.specs.inner.Scopes.{below_at, function_at, order_at, program_at, relation_at}
 use Rattle.syn_eval.specs.inner.Weights.{AreLight, AreLightForms, all_nodes}
 use Rattle.syn_eval.proofs.Answers.{ends_same, never}
@@ -27,18 +28,32 @@ use Rattle.syn_eval.proofs.Light.{functions_light, measure_is_light, relations_l
 pub known_fact : (o : Option (Bor Entry)) (b : Bor Entry) (ds : List Decl) (p : Option Sym) → o ≡ Some b → option_map (λ z. entry_seen z.now) o ≡ option_map (known_of ds) p → Some (entry_seen b.now) ≡ option_map (known_of ds) p
 known_fact o b ds p e h = sym (ap (option_map (λ z. entry_seen z.now)) e) ∙ h
 
+-- no body that is known is too large
+module _ (m : Meaning) (name : List ℕ) where
+  functions_known : (kd : Kind) → AreLight m (known_by m.decls name kd).functions
+  functions_known kind.Fun = functions_light m name
+  functions_known _ = All-nil (λ c. out_nodes c.body ≤ all_nodes m)
+
+  relations_known : (kd : Kind) → AreLightForms m (known_by m.decls name kd).relations
+  relations_known kind.Rel = relations_light m name
+  relations_known _ = All-nil (λ c. form_nodes c.body ≤ all_nodes m)
+
+  measure_known : (kd : Kind) (t : TermTree) → (known_by m.decls name kd).measure ≡ Some t → nodes t ≤ all_nodes m
+  measure_known kind.Order t e = measure_is_light m name t e
+  measure_known _ t e = absurd (cc)
+
 module _ (m : Meaning) (f : SymId) (k : Known) (there : Some k ≡ option_map (known_of m.decls) (symbol_at m.table f)) where
   known : IsKnown m f k
   known = is_known m f k there
 
   pub known_functions : (cs : List (Clause OutTree)) → cs ≡ k.functions → AreLight m cs
-  known_functions cs e = subst (AreLight m) (sym (e ∙ ap (λ (z : Known). z.functions) known.known)) (functions_light m known.symbol.name)
+  known_functions cs e = subst (AreLight m) (sym (e ∙ ap (λ (z : Known). z.functions) known.known)) (functions_known m known.symbol.name known.symbol.kind)
 
   pub known_relations : (cs : List (Clause FormTree)) → cs ≡ k.relations → AreLightForms m cs
-  known_relations cs e = subst (AreLightForms m) (sym (e ∙ ap (λ (z : Known). z.relations) known.known)) (relations_light m known.symbol.name)
+  known_relations cs e = subst (AreLightForms m) (sym (e ∙ ap (λ (z : Known). z.relations) known.known)) (relations_known m known.symbol.name known.symbol.kind)
 
   pub known_measure : (t : TermTree) → k.measure ≡ Some t → nodes t ≤ all_nodes m
-  known_measure t e = measure_is_light m known.symbol.name t (sym (ap (λ (z : Known). z.measure) known.known) ∙ e)
+  known_measure t e = measure_known m known.symbol.name known.symbol.kind t (sym (ap (λ (z : Known). z.measure) known.known) ∙ e)
 
   module _ (inputs vs : List ValueTree) (turns : ℕ) where
     pub function_answer : k.kind ≡ kind.Fun → (cs : List (Clause OutTree)) → cs ≡ k.functions → (r : Result (ValueTree × ℕ) EvalError) → Ends (function_at m cs vs) turns r → Ends (λ n. (reading_at m n inputs).value f vs) turns r

@@ -13,7 +13,7 @@ use Rattle.syn_model.specs.declared.decl.Decl.{Decl}
 use Rattle.syn_model.specs.Calls.{Meaning, by_measure, reading_at, truth_by, value_by}
 use Rattle.syn_model.specs.Evaluation.{Reading, after}
 use Rattle.syn_eval.specs.declared.entries.Entry.{Entry}
-use Rattle.syn_eval.specs.inner.Rules.{Known, entry_seen, known_of}
+use Rattle.syn_eval.specs.inner.Rules.{Known, entry_seen, known_by, known_of}
 use Rattle.syn_eval.specs.inner.Scopes.{below_at, function_at, order_at, program_at, relation_at}
 
 -- an item of a list that is made item by item
@@ -29,6 +29,20 @@ lent f (Some b) = refl
 -- the entry that is found is that of the symbol
 pub found_entry : (o : Option (Bor Entry)) (es : List Entry) (i : ℕ) (ds : List Decl) (syms : List Sym) → option_copied o ≡ slice_get es i → map entry_seen es ≡ map (known_of ds) syms → option_map (λ b. entry_seen b.now) o ≡ option_map (known_of ds) (slice_get syms i)
 found_entry o es i ds syms e h = lent entry_seen o ∙ (ap (option_map entry_seen) e ∙ (mapped_at entry_seen es i ∙ (ap (λ z. slice_get z i) h ∙ sym (mapped_at (known_of ds) syms i))))
+
+-- the kind is known
+kind_is : (ds : List Decl) (name : List ℕ) (kd : Kind) → (known_by ds name kd).kind ≡ kd
+kind_is ds name kind.Zero = refl
+kind_is ds name kind.Succ = refl
+kind_is ds name kind.Nil = refl
+kind_is ds name kind.Cons = refl
+kind_is ds name kind.Tuple = refl
+kind_is ds name kind.Fun = refl
+kind_is ds name kind.Rel = refl
+kind_is ds name kind.Order = refl
+kind_is ds name kind.Program = refl
+kind_is ds name kind.Input = refl
+kind_is ds name kind.Skolem = refl
 
 -- a symbol with what is known of it
 pub record IsKnown (m : Meaning) (f : SymId) (k : Known) : Type 0 where
@@ -65,37 +79,43 @@ module _ (m : Meaning) (inputs : List ValueTree) (f : SymId) (vs : List ValueTre
   no_truth e n = truth_over n ∙ ap (option_and_then (λ s. truth_by m (below_at m n) s.name vs s.kind)) (unknown_from m (symbol_at m.table f) e)
 
   module _ (k : Known) (h : IsKnown m f k) where
+    of_kind : (kd : Kind) → k.kind ≡ kd → h.symbol.kind ≡ kd
+    of_kind kd e = sym (ap (λ (z : Known). z.kind) h.known ∙ kind_is m.decls h.symbol.name h.symbol.kind) ∙ e
+
+    known_at : (kd : Kind) → k.kind ≡ kd → k ≡ known_by m.decls h.symbol.name kd
+    known_at kd e = h.known ∙ ap (known_by m.decls h.symbol.name) (of_kind kd e)
+
     pub value_of_kind : (kd : Kind) → k.kind ≡ kd → (n : ℕ) → (reading_at m n inputs).value f vs ≡ value_by m (below_at m n) inputs f h.symbol.name vs kd
     value_of_kind kd e n =
-        let is : h.symbol.kind ≡ kd = sym (ap (λ (z : Known). z.kind) h.known) ∙ e in
+        let is : h.symbol.kind ≡ kd = of_kind kd e in
         value_over n ∙ (ap (option_and_then (λ s. value_by m (below_at m n) inputs f s.name vs s.kind)) h.there ∙ ap (value_by m (below_at m n) inputs f h.symbol.name vs) is)
 
     pub truth_of_kind : (kd : Kind) → k.kind ≡ kd → (n : ℕ) → (reading_at m n inputs).truth f vs ≡ truth_by m (below_at m n) h.symbol.name vs kd
     truth_of_kind kd e n =
-        let is : h.symbol.kind ≡ kd = sym (ap (λ (z : Known). z.kind) h.known) ∙ e in
+        let is : h.symbol.kind ≡ kd = of_kind kd e in
         truth_over n ∙ (ap (option_and_then (λ s. truth_by m (below_at m n) s.name vs s.kind)) h.there ∙ ap (truth_by m (below_at m n) h.symbol.name vs) is)
 
     pub function_value : k.kind ≡ kind.Fun → (n : ℕ) → (reading_at m n inputs).value f vs ≡ function_at m k.functions vs n
-    function_value e n = value_of_kind kind.Fun e n ∙ ap (λ (z : Known). function_at m z.functions vs n) (sym h.known)
+    function_value e n = value_of_kind kind.Fun e n ∙ ap (λ (z : Known). function_at m z.functions vs n) (sym (known_at kind.Fun e))
 
     pub program_value : k.kind ≡ kind.Program → (n : ℕ) → (reading_at m n inputs).value f vs ≡ program_at m vs n
     program_value e n = value_of_kind kind.Program e n
 
     pub relation_truth : k.kind ≡ kind.Rel → (n : ℕ) → (reading_at m n inputs).truth f vs ≡ relation_at m k.relations vs n
-    relation_truth e n = truth_of_kind kind.Rel e n ∙ ap (λ (z : Known). relation_at m z.relations vs n) (sym h.known)
+    relation_truth e n = truth_of_kind kind.Rel e n ∙ ap (λ (z : Known). relation_at m z.relations vs n) (sym (known_at kind.Rel e))
 
     -- an order compares its measure on the two halves of the values
     pub order_truth : k.kind ≡ kind.Order → (t : TermTree) → k.measure ≡ Some t → (n : ℕ) → (reading_at m n inputs).truth f vs ≡ order_at m t vs n
     order_truth e t is n = truth_of_kind kind.Order e n ∙ compared (below_at m n) where
       compared : (d : Option (List ValueTree → Reading)) → truth_by m d h.symbol.name vs kind.Order ≡ option_and_then (λ below. after 1 (by_measure (below []) vs t)) d
       compared None = refl
-      compared (Some below) = ap (option_and_then (λ measure. after 1 (by_measure (below []) vs measure))) (sym (ap (λ (z : Known). z.measure) h.known) ∙ is)
+      compared (Some below) = ap (option_and_then (λ measure. after 1 (by_measure (below []) vs measure))) (sym (ap (λ (z : Known). z.measure) (known_at kind.Order e)) ∙ is)
 
     pub no_measure : k.kind ≡ kind.Order → k.measure ≡ None → (n : ℕ) → (reading_at m n inputs).truth f vs ≡ None
     no_measure e is n = truth_of_kind kind.Order e n ∙ nothing (below_at m n) where
       nothing : (d : Option (List ValueTree → Reading)) → truth_by m d h.symbol.name vs kind.Order ≡ None
       nothing None = refl
-      nothing (Some below) = ap (option_and_then (λ measure. after 1 (by_measure (below []) vs measure))) (sym (ap (λ (z : Known). z.measure) h.known) ∙ is)
+      nothing (Some below) = ap (option_and_then (λ measure. after 1 (by_measure (below []) vs measure))) (sym (ap (λ (z : Known). z.measure) (known_at kind.Order e)) ∙ is)
 
     pub input_value_is : k.kind ≡ kind.Input → (n : ℕ) → (reading_at m n inputs).value f vs ≡ value_by m None inputs f [] vs kind.Input
     input_value_is e n = value_of_kind kind.Input e n ∙ same vs where

@@ -16,3 +16,4 @@ pub mod Measures
 pub mod Lists
 pub mod Tops
 pub mod BareCalls
+pub mod Runs

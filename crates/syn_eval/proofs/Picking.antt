@@ -49,7 +49,7 @@ picked_step pick name whole done more under ds i d lt e h m =
     ∙ (ap (λ z. done ++ picked_from pick name under z) (sym (opened ds i d lt e)) ∙ h))
 
 -- nothing is left
-drop_end : {X : Type 0} (xs : List X) (i : ℕ) → length xs ≡ i → drop i xs ≡ []
+pub drop_end : {X : Type 0} (xs : List X) (i : ℕ) → length xs ≡ i → drop i xs ≡ []
 drop_end [] zero e = refl
 drop_end [] (suc i) e = refl
 drop_end (x ∷ xs) zero e = absurd (omega (arith, e))

@@ -9,6 +9,7 @@ mod entries;
 mod errors;
 mod evaluating;
 mod fitting;
+mod headed;
 mod making;
 mod rules;
 mod setting;

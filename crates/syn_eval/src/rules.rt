@@ -4,7 +4,8 @@ ghost use Rattle.std.specs.Option.{option_copied};
 ghost use Rattle.std.specs.Str.{bytes_eq};
 ghost use Rattle.syn_model.specs.Calls.{first_of};
 ghost use Rattle.syn_model.specs.Clausal.{function_clause, function_clauses, measure_in, measures_of, relation_clause, relation_clauses};
-ghost use Rattle.syn_eval.specs.inner.Rules.{rule_seen, under_after};
+ghost use Rattle.syn_model.specs.Declaring.{is_clause};
+ghost use Rattle.syn_eval.specs.inner.Rules.{leading, rule_seen, under_after};
 
 use sqlite_items::Items;
 use std::alloc::Global;
@@ -20,7 +21,7 @@ pub(crate) struct Rule<'a, B> {
 }
 
 /// Whether the two texts are the same.
-fn same_text(text: &str, other: &str) -> bool
+pub(crate) fn same_text(text: &str, other: &str) -> bool
     ensures { result ≡ bytes_eq text.now other.now }
 {
     text == other
@@ -110,6 +111,47 @@ pub(crate) fn relation_rules<'a>(
     for decl in decls {
         put_relation_rule(under, decl, &mut rules)?;
         under = is_under(under, decl, name);
+    }
+    Ok(rules)
+}
+
+/// Whether the declaration is a clause.
+fn is_clause(decl: &Decl) -> bool
+    ensures { result ≡ is_clause decl.now }
+{
+    matches!(decl, Decl::FunClause { .. } | Decl::RelClause { .. })
+}
+
+/// The clauses of a function that stand in front of these declarations.
+pub(crate) fn leading_functions<'a>(
+    alloc: Global,
+    decls: &'a [Decl],
+) -> Result<Items<Rule<'a, Out>>, NoMemory>
+    ensures { IfOk result (λ rules. map rule_seen rules ≡ leading function_clause decls.entry.now) }
+{
+    let mut rules = Items::new(alloc);
+    for decl in decls {
+        if !is_clause(decl) {
+            return Ok(rules);
+        }
+        put_function_rule(true, decl, &mut rules)?;
+    }
+    Ok(rules)
+}
+
+/// The clauses of a relation that stand in front of these declarations.
+pub(crate) fn leading_relations<'a>(
+    alloc: Global,
+    decls: &'a [Decl],
+) -> Result<Items<Rule<'a, Form>>, NoMemory>
+    ensures { IfOk result (λ rules. map rule_seen rules ≡ leading relation_clause decls.entry.now) }
+{
+    let mut rules = Items::new(alloc);
+    for decl in decls {
+        if !is_clause(decl) {
+            return Ok(rules);
+        }
+        put_relation_rule(true, decl, &mut rules)?;
     }
     Ok(rules)
 }
