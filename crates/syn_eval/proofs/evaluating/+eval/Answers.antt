@@ -194,8 +194,8 @@ eval_atom-returns-in_err-is-clause-ends t c =
     let p = err_from_is_err_and c.from_residual-in_err-is.result c.from_residual-in_err-is.ensures.1 in
     rw (p.1, p.2) (second_fails (terms_in c.args.scope.now c.args.args.now) (truth_in c.args.scope.now c.args.r) (form_in c.args.scope.now (form.Atom c.args.r c.args.args.now)) (atom_is c.args.scope.now _ _ _ _ refl refl) (terms_grow c.args.scope.now c.args.args.now) (truth_grows c.args.scope.now c.args.r) c.args.turns c.in_ok-values.values c.in_ok-values.used c.in_ok-values.ensures.ends _ (subst (λ z. Ends (truth_in c.args.scope.now c.args.r z) (c.args.turns - c.in_ok-values.used) (Err c.in_err-is.field-0.0)) c.as_slice.ensures c.in_err-is.ensures.ends))
 
-pub eval_atom-returns-in_ok-is-clause-ends : goal.eval_atom-returns-in_ok-is-clause-ends
-eval_atom-returns-in_ok-is-clause-ends t c = two_within (terms_in c.args.scope.now c.args.args.now) (truth_in c.args.scope.now c.args.r) (form_in c.args.scope.now (form.Atom c.args.r c.args.args.now)) (atom_is c.args.scope.now _ _ _ _ refl refl) (terms_grow c.args.scope.now c.args.args.now) (truth_grows c.args.scope.now c.args.r) c.args.turns c.in_ok-values.values c.in_ok-values.used _ _ c.in_ok-values.ensures.ends (subst (λ z. IsWithin (truth_in c.args.scope.now c.args.r z) (c.args.turns - c.in_ok-values.used) (record { result = c.in_ok-is.is'; turns = c.in_ok-is.more })) c.as_slice.ensures c.in_ok-is.ensures.ends)
+pub eval_atom-returns-clause-ends : goal.eval_atom-returns-clause-ends
+eval_atom-returns-clause-ends t c = two_within (terms_in c.args.scope.now c.args.args.now) (truth_in c.args.scope.now c.args.r) (form_in c.args.scope.now (form.Atom c.args.r c.args.args.now)) (atom_is c.args.scope.now _ _ _ _ refl refl) (terms_grow c.args.scope.now c.args.args.now) (truth_grows c.args.scope.now c.args.r) c.args.turns c.in_ok-values.values c.in_ok-values.used _ _ c.in_ok-values.ensures.ends (subst (λ z. IsWithin (truth_in c.args.scope.now c.args.r z) (c.args.turns - c.in_ok-values.used) (record { result = c.in_ok-is.is'; turns = c.in_ok-is.more })) c.as_slice.ensures c.in_ok-is.ensures.ends)
 
 pub eval_equal-returns-in_err-v-clause-ends : goal.eval_equal-returns-in_err-v-clause-ends
 eval_equal-returns-in_err-v-clause-ends t c =
@@ -213,8 +213,8 @@ eval_equal-returns-in_err-w-clause-ends t c =
     let p = err_from_is_err_and c.from_residual-in_err-w.result c.from_residual-in_err-w.ensures.1 in
     rw (p.1, p.2) (second_fails (term_in c.args.scope.now c.args.first.now) (same_as c.args.scope.now c.args.second.now) (form_in c.args.scope.now (form.Equal c.args.first.now c.args.second.now)) (equal_is c.args.scope.now _ _ _ refl) (term_grows c.args.scope.now c.args.first.now) (same_as_grows c.args.scope.now c.args.second.now) c.args.turns c.in_ok-v.v c.in_ok-v.used c.in_ok-v.ensures.ends _ (made_fails (same_value c.in_ok-v.v) (term_in c.args.scope.now c.args.second.now) _ _ c.in_err-w.ensures.ends))
 
-pub eval_equal-returns-in_ok-w-clause-ends : goal.eval_equal-returns-in_ok-w-clause-ends
-eval_equal-returns-in_ok-w-clause-ends t c = two_within (term_in c.args.scope.now c.args.first.now) (same_as c.args.scope.now c.args.second.now) (form_in c.args.scope.now (form.Equal c.args.first.now c.args.second.now)) (equal_is c.args.scope.now _ _ _ refl) (term_grows c.args.scope.now c.args.first.now) (same_as_grows c.args.scope.now c.args.second.now) c.args.turns c.in_ok-v.v c.in_ok-v.used _ _ c.in_ok-v.ensures.ends (told_same c.args.scope.now c.args.second.now c.in_ok-v.v c.in_ok-w.w _ _ c.same.result c.same.ensures c.in_ok-w.ensures.ends)
+pub eval_equal-returns-clause-ends : goal.eval_equal-returns-clause-ends
+eval_equal-returns-clause-ends t c = two_within (term_in c.args.scope.now c.args.first.now) (same_as c.args.scope.now c.args.second.now) (form_in c.args.scope.now (form.Equal c.args.first.now c.args.second.now)) (equal_is c.args.scope.now _ _ _ refl) (term_grows c.args.scope.now c.args.first.now) (same_as_grows c.args.scope.now c.args.second.now) c.args.turns c.in_ok-v.v c.in_ok-v.used _ _ c.in_ok-v.ensures.ends (told_same c.args.scope.now c.args.second.now c.in_ok-v.v c.in_ok-w.w _ _ c.same.result c.same.ensures c.in_ok-w.ensures.ends)
 
 pub eval_implies-returns-in_err-x-clause-ends : goal.eval_implies-returns-in_err-x-clause-ends
 eval_implies-returns-in_err-x-clause-ends t c =
@@ -232,8 +232,8 @@ eval_implies-returns-in_err-y-clause-ends t c =
     let p = err_from_is_err_and c.from_residual-in_err-y.result c.from_residual-in_err-y.ensures.1 in
     rw (p.1, p.2) (second_fails (form_in c.args.scope.now c.args.first.now) (implied_by c.args.scope.now c.args.second.now) (form_in c.args.scope.now (form_view.Implies c.args.first.now c.args.second.now)) (implies_is c.args.scope.now _ _ _ _ _ refl refl refl) (form_grows c.args.scope.now c.args.first.now) (implied_by_grows c.args.scope.now c.args.second.now) c.args.turns c.in_ok-x.x c.in_ok-x.used c.in_ok-x.ensures.ends _ (made_fails (λ y. not c.in_ok-x.x || y) (form_in c.args.scope.now c.args.second.now) _ _ c.in_err-y.ensures.ends))
 
-pub eval_implies-returns-in_ok-y-clause-ends : goal.eval_implies-returns-in_ok-y-clause-ends
-eval_implies-returns-in_ok-y-clause-ends t c = two_within (form_in c.args.scope.now c.args.first.now) (implied_by c.args.scope.now c.args.second.now) (form_in c.args.scope.now (form_view.Implies c.args.first.now c.args.second.now)) (implies_is c.args.scope.now _ _ _ _ _ refl refl refl) (form_grows c.args.scope.now c.args.first.now) (implied_by_grows c.args.scope.now c.args.second.now) c.args.turns c.in_ok-x.x c.in_ok-x.used _ _ c.in_ok-x.ensures.ends (subst (λ z. IsWithin (implied_by c.args.scope.now c.args.second.now c.in_ok-x.x) (c.args.turns - c.in_ok-x.used) (record { result = z; turns = c.in_ok-y.more })) (sym c.implies.ensures) (made_within (λ y. not c.in_ok-x.x || y) (form_in c.args.scope.now c.args.second.now) (c.args.turns - c.in_ok-x.used) c.in_ok-y.y c.in_ok-y.more c.in_ok-y.ensures.ends))
+pub eval_implies-returns-clause-ends : goal.eval_implies-returns-clause-ends
+eval_implies-returns-clause-ends t c = two_within (form_in c.args.scope.now c.args.first.now) (implied_by c.args.scope.now c.args.second.now) (form_in c.args.scope.now (form_view.Implies c.args.first.now c.args.second.now)) (implies_is c.args.scope.now _ _ _ _ _ refl refl refl) (form_grows c.args.scope.now c.args.first.now) (implied_by_grows c.args.scope.now c.args.second.now) c.args.turns c.in_ok-x.x c.in_ok-x.used _ _ c.in_ok-x.ensures.ends (subst (λ z. IsWithin (implied_by c.args.scope.now c.args.second.now c.in_ok-x.x) (c.args.turns - c.in_ok-x.used) (record { result = z; turns = c.in_ok-y.more })) (sym c.implies.ensures) (made_within (λ y. not c.in_ok-x.x || y) (form_in c.args.scope.now c.args.second.now) (c.args.turns - c.in_ok-x.used) c.in_ok-y.y c.in_ok-y.more c.in_ok-y.ensures.ends))
 
 pub eval_form-eval_atom-requires : goal.eval_form-eval_atom-requires
 eval_form-eval_atom-requires t c =
@@ -264,7 +264,7 @@ eval_form-returns-in-Implies-clause-ends t c = form_ends c.args.scope.now c.args
 
 pub eval_form-returns-in_err-is-in-Not-clause-ends : goal.eval_form-returns-in_err-is-in-Not-clause-ends
 eval_form-returns-in_err-is-in-Not-clause-ends t c =
-    let p = err_from_is_err_and c.from_residual-in_err-is-in-Not.result c.from_residual-in_err-is-in-Not.ensures.1 in
+    let p = err_from_is_err_and c.from_residual.result c.from_residual.ensures.1 in
     rw (p.1, p.2) (ends_same _ _ c.args.turns (not_is c.args.scope.now _ _ _ c.in-Not.is c.get-in-Not.ensures) (Err c.in_err-is-in-Not.field-0.0) (made_fails not (form_in c.args.scope.now c.get-in-Not.result.now) _ _ c.in_err-is-in-Not.ensures.ends))
 
 pub eval_form-returns-in_err-tally-in-And-clause-ends : goal.eval_form-returns-in_err-tally-in-And-clause-ends
@@ -303,8 +303,8 @@ eval_number-returns-in_err-v-clause-ends t c =
     let p = err_from_is_err_and c.from_residual.result c.from_residual.ensures.1 in
     rw (p.1, p.2) (made_fails number_of (term_in c.args.scope.now c.args.t.now) _ _ c.in_err-v.ensures.ends)
 
-pub eval_number-returns-in_ok-v-clause-ends : goal.eval_number-returns-in_ok-v-clause-ends
-eval_number-returns-in_ok-v-clause-ends t c = subst (λ z. IsWithin (number_in c.args.scope.now c.args.t.now) c.args.turns (record { result = z; turns = c.in_ok-v.used })) (sym c.as_number.ensures) (made_within number_of (term_in c.args.scope.now c.args.t.now) c.args.turns c.in_ok-v.v c.in_ok-v.used c.in_ok-v.ensures.ends)
+pub eval_number-returns-clause-ends : goal.eval_number-returns-clause-ends
+eval_number-returns-clause-ends t c = subst (λ z. IsWithin (number_in c.args.scope.now c.args.t.now) c.args.turns (record { result = z; turns = c.in_ok-v.used })) (sym c.as_number.ensures) (made_within number_of (term_in c.args.scope.now c.args.t.now) c.args.turns c.in_ok-v.v c.in_ok-v.used c.in_ok-v.ensures.ends)
 
 pub ask_order-eval_number-requires : goal.ask_order-eval_number-requires
 ask_order-eval_number-requires t c =
@@ -331,5 +331,5 @@ ask_order-returns-in_err-n-clause-ends t c =
 pub ask_order-returns-in-None-clause-ends : goal.ask_order-returns-in-None-clause-ends
 ask_order-returns-in-None-clause-ends t c = not_compared c.args.set.now c.args.measure.now c.args.args.now (record { set = c.args.set; inputs = record { ref_ptr = c.args.args.ref_ptr; now = [] }; values = c.front.result }) (record { set = c.args.set; inputs = record { ref_ptr = c.args.args.ref_ptr; now = [] }; values = c.back.result }) (record { set = refl; inputs_are = refl; values_are = c.front.ensures }) (record { set = refl; inputs_are = refl; values_are = c.back.ensures }) c.args.turns (omega arith) c.in_ok-m.m c.in_ok-m.used c.in_ok-m.ensures.ends c.in_ok-n.n c.in_ok-n.more c.in_ok-n.ensures.ends (sym c.is_below.ensures ∙ ap (option_map (λ b. record { result = b; turns = 0 })) c.in-None.is)
 
-pub ask_order-returns-clause-ends : goal.ask_order-returns-clause-ends
-ask_order-returns-clause-ends t c = compared_within c.args.set.now c.args.measure.now c.args.args.now (record { set = c.args.set; inputs = record { ref_ptr = c.args.args.ref_ptr; now = [] }; values = c.front.result }) (record { set = c.args.set; inputs = record { ref_ptr = c.args.args.ref_ptr; now = [] }; values = c.back.result }) (record { set = refl; inputs_are = refl; values_are = c.front.ensures }) (record { set = refl; inputs_are = refl; values_are = c.back.ensures }) c.args.turns (omega arith) c.in_ok-m.m c.in_ok-m.used c.in_ok-m.ensures.ends c.in_ok-n.n c.in_ok-n.more c.in_ok-n.ensures.ends _ (sym c.is_below.ensures ∙ ap (option_map (λ b. record { result = b; turns = 0 })) c.in-Some.is)
+pub ask_order-returns-in-Some-clause-ends : goal.ask_order-returns-in-Some-clause-ends
+ask_order-returns-in-Some-clause-ends t c = compared_within c.args.set.now c.args.measure.now c.args.args.now (record { set = c.args.set; inputs = record { ref_ptr = c.args.args.ref_ptr; now = [] }; values = c.front.result }) (record { set = c.args.set; inputs = record { ref_ptr = c.args.args.ref_ptr; now = [] }; values = c.back.result }) (record { set = refl; inputs_are = refl; values_are = c.front.ensures }) (record { set = refl; inputs_are = refl; values_are = c.back.ensures }) c.args.turns (omega arith) c.in_ok-m.m c.in_ok-m.used c.in_ok-m.ensures.ends c.in_ok-n.n c.in_ok-n.more c.in_ok-n.ensures.ends _ (sym c.is_below.ensures ∙ ap (option_map (λ b. record { result = b; turns = 0 })) c.in-Some.is)
