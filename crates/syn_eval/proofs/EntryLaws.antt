@@ -10,7 +10,8 @@ use Rattle.syn_term.specs.Symbols.{symbol_at}
 use Rattle.syn_term.specs.Terms.{TermTree}
 use Rattle.syn_value.specs.declared.tree.ValueTree.{ValueTree}
 use Rattle.syn_model.specs.declared.decl.Decl.{Decl}
-use Rattle.syn_model.specs.Calls.{Meaning, by_measure, reading_at, truth_by, value_by}
+use Rattle.syn_model.specs.Calls.{Meaning, by_measure, first_of, reading_at, truth_by, value_by}
+use Rattle.syn_model.specs.Clausal.{measures_of}
 use Rattle.syn_model.specs.Evaluation.{Reading, after}
 use Rattle.syn_eval.specs.declared.entries.Entry.{Entry}
 use Rattle.syn_eval.specs.inner.Rules.{Known, entry_seen, known_by, known_of}
@@ -43,6 +44,13 @@ kind_is ds name kind.Order = refl
 kind_is ds name kind.Program = refl
 kind_is ds name kind.Input = refl
 kind_is ds name kind.Skolem = refl
+
+-- what is known of an order
+abbrev ordered : Option TermTree → Known
+ordered measure = record { kind = kind.Order; functions = []; relations = []; measure = measure }
+
+pub order_known : (k : Known) (ds : List Decl) (s : Sym) (name : List ℕ) (measure : Option TermTree) → k ≡ ordered measure → measure ≡ first_of (measures_of ds name) → name ≡ s.name → s.kind ≡ kind.Order → k ≡ known_of ds s
+order_known k ds s name measure h is n o = h ∙ (ap ordered is ∙ λ i. known_by ds (n i) (sym o i))
 
 -- a symbol with what is known of it
 pub record IsKnown (m : Meaning) (f : SymId) (k : Known) : Type 0 where
