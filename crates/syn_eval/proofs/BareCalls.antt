@@ -8,17 +8,16 @@ use Rattle.syn_term.specs.declared.sorts.Kind.{Kind}
 use Rattle.syn_term.specs.declared.sorts.Kind.TheVariants as kind
 use Rattle.syn_term.specs.declared.sorts.SymId.{SymId}
 use Rattle.syn_term.specs.Symbols.{SymbolTable, symbol_at}
-use Rattle.syn_term.specs.Terms.{TermTree, bare, head_of}
+use Rattle.syn_term.specs.Terms.{TermTree, bare}
 use Rattle.syn_form.specs.Trees.{FormTree, OutTree, bare_form, bare_out}
 use Rattle.syn_value.specs.declared.tree.ValueTree.{ValueTree}
 use Rattle.syn_value.specs.declared.tree.ValueTree.TheVariants as tree
 use Rattle.syn_model.specs.declared.decl.Decl.{Decl}
 use Rattle.syn_model.specs.declared.decl.Decl.TheVariants as decl
-use Rattle.syn_model.specs.BareParts.{bare_program_tree}
 use Rattle.syn_model.specs.BareTrees.{bare_decl}
-use Rattle.syn_model.specs.Calls.{Chosen, Meaning, by_function, by_measure, by_relation, call_of, chosen, first_of, fitting, half, input_value, numbered_values, or_else, parts_by, reading_at, reading_over, smaller_values, truth_by, value_by}
+use Rattle.syn_model.specs.Calls.{Chosen, Meaning, by_function, by_measure, by_relation, chosen, first_of, fitting, half, input_value, numbered_values, or_else, parts_by, reading_at, reading_over, smaller_values, truth_by, value_by}
 use Rattle.syn_model.specs.Clausal.{Clause, function_clause, function_clauses, heading_after_decl, measure_in, measures_of, picked_under, relation_clause, relation_clauses}
-use Rattle.syn_model.specs.Evaluation.{Counted, Reading, after, evaluate_out, evaluate_term, free}
+use Rattle.syn_model.specs.Evaluation.{Counted, Reading, after, evaluate_out, free}
 use Rattle.syn_model.specs.Programs.{ProgramTree}
 use Rattle.syn_model.specs.Tables.{table_of}
 use Rattle.syn_model.proofs.BareClauses.{head_bare}

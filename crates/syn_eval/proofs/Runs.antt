@@ -1,5 +1,5 @@
 -- The clauses of a heading of a theory are those that follow it at once.
-use Rattle.std.proofs.Common.{◌≡◌, ◌≢◌, inl, ℕ, zero, suc, ◌+◌, ◌<◌, Bool, true, false, List, [], ◌∷◌, ◌++◌, All, Contains, Option, None, Some, append-nil, append_assoc, drop, fold, get_or, length, map, slice_get, take, if◌then◌else◌, refl, sym, ap, ap₂, subst, ◌∙◌, arith, true≢false}
+use Rattle.std.proofs.Common.{◌≡◌, ◌≢◌, inl, ℕ, zero, suc, ◌+◌, ◌<◌, Bool, true, false, List, [], ◌∷◌, ◌++◌, All, Contains, Some, append-nil, append_assoc, drop, fold, get_or, length, map, slice_get, take, if◌then◌else◌, refl, sym, ap, ap₂, subst, ◌∙◌, arith, true≢false}
 use Rattle.std.specs.Str.{bytes_eq}
 use Rattle.std.proofs.lemmas.Bool.{false_from_ne_true}
 use Rattle.std.proofs.lemmas.Grind.{flat_map-append}
@@ -17,7 +17,7 @@ use Rattle.syn_model.specs.declared.decl.Decl.TheVariants as decl
 use Rattle.syn_model.specs.Calls.{first_of}
 use Rattle.syn_model.specs.Clausal.{function_clause, function_clauses, heading_after_decl, measure_in, measures_of, picked_under, relation_clause, relation_clauses}
 use Rattle.syn_model.specs.Declaring.{IsTheory, MayDeclare, is_clause, nothing, one_more}
-use Rattle.syn_model.specs.Tables.{fun_symbol, order_symbol, rel_symbol, table_after, table_of}
+use Rattle.syn_model.specs.Tables.{fun_symbol, rel_symbol, table_after, table_of}
 use Rattle.syn_model.proofs.ClauseLists.{IsOther, no_clauses, no_measure, same_test}
 use Rattle.syn_model.proofs.GrowingTables.{next_grows, table_next}
 use Rattle.syn_eval.proofs.Picking.{drop_end, opened}

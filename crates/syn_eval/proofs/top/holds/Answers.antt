@@ -1,4 +1,4 @@
-use Rattle.std.proofs.Common.{[], None, refl}
+use Rattle.std.proofs.Common.{[], refl}
 use Rattle.std.proofs.lemmas.Result.{err_from_is_err_and}
 use Rattle.syn_eval.specs.Ending.{meaning_over}
 use Rattle.syn_eval.proofs.Rooms.{no_rooms, scope_rooms}

@@ -1,4 +1,4 @@
-use Rattle.std.proofs.Common.{[], Some, length, refl, ap, ◌∙◌}
+use Rattle.std.proofs.Common.{[], length, refl, ap, ◌∙◌}
 use Rattle.std.proofs.lemmas.Result.{IfOk-weaker}
 use Rattle.syn_model.specs.Calls.{Meaning}
 use Rattle.syn_model.specs.Tables.{table_of}
