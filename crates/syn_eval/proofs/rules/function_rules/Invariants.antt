@@ -1,0 +1,9 @@
+use Rattle.std.proofs.Common.{◌≡◌, ◌++◌, map, drop}
+use Rattle.syn_model.specs.Clausal.{function_clause, function_clauses}
+use Rattle.syn_eval.specs.inner.Rules.{rule_seen}
+use Rattle.syn_eval.proofs.Picking.{picked_from}
+use Rattle.syn_eval.proofs.rules.function_rules.Given as goal
+
+-- the clauses so far, and those that are still to come, are all clauses
+abbrev pub invariant-loop-decl : goal.invariant-loop-decl
+invariant-loop-decl l = map rule_seen l.rules ++ picked_from function_clause l.name l.under (drop l.decl-index l.decls) ≡ function_clauses l.decls l.name

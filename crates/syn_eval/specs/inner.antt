@@ -1,0 +1,4 @@
+pub mod Rules
+pub mod Fitting
+pub mod Scopes
+pub mod Weights
