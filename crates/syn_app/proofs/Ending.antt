@@ -4,7 +4,6 @@ use Rattle.std.proofs.lemmas.Result.{MatchResult-weaker}
 use Rattle.syn_outside.specs.Files.{File}
 use Rattle.syn_app.specs.Trees.{TheoryTree}
 use Rattle.syn_app.specs.ProgramText.{printed_program}
-use Rattle.syn_app.specs.declared.command.Command.{Command}
 use Rattle.syn_app.specs.declared.command.Command.TheVariants as command
 use Rattle.syn_app.specs.declared.flat.Entry.{Entry}
 use Rattle.syn_app.specs.declared.flat.FlatRow.{FlatRow}
@@ -88,7 +87,3 @@ after_spec view files later before from now s name deriv bytes items r same load
 pub after_theory : {X : Type 0} (view : X → List ℕ) (files later : Option (List File)) (before from now : ℕ) (name spec deriv : List ℕ) (r : Result X Status) → ((theory : TheoryTree) × Passed (theory_stage name) files theory) → later ≡ files → before ≤ from → ((theory : TheoryTree) → MatchResult r (λ x. Passed (spec_work theory spec deriv) later (view x)) (Stops (spec_work theory spec deriv) later from now)) → MatchResult r (λ x. Passed (work (command.Check name spec deriv)) files (view x)) (Stops (work (command.Check name spec deriv)) files before now)
 after_theory view files later before from now name spec deriv r read stay le m =
     rest_ends files (theory_stage name) (λ t. spec_work t spec deriv) read.0 read.1 view later before from now r stay le (m read.0)
-
--- what is said of a command is said of one that it is
-pub handed_on : {X : Type 0} (view : X → List ℕ) (files : Option (List File)) (before now : ℕ) (c k : Command) (r : Result X Status) → c ≡ k → MatchResult r (λ x. Passed (work k) files (view x)) (Stops (work k) files before now) → MatchResult r (λ x. Passed (work c) files (view x)) (Stops (work c) files before now)
-handed_on view files before now c k r same m = subst (λ (z : Command). MatchResult r (λ x. Passed (work z) files (view x)) (Stops (work z) files before now)) (sym same) m

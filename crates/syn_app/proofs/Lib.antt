@@ -19,6 +19,8 @@ pub mod Stops
 pub mod Ending
 pub mod Exact
 pub mod OneStage
+pub mod EvalEnding
+pub mod OneEvaluation
 pub mod OneStatus
 pub mod Saying
 pub mod OneProgram

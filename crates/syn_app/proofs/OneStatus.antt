@@ -24,6 +24,7 @@ use Rattle.syn_app.specs.Work.{Asks, IsBadFor, IsDerivationFor, derivation_stage
 use Rattle.syn_app.specs.Comes.{Comes, ComesFor, IsQuiet, Scene}
 use Rattle.syn_app.proofs.Exact.{derivation_is_text, derivation_text_flat, derivation_text_once, first_bad_once, spec_is_text, spec_text_flat, spec_text_once, text_or_bad, theory_is_text, theory_once}
 use Rattle.syn_app.proofs.OneStage.{IsOne, behind_one, giving_one, reading_one}
+use Rattle.syn_app.proofs.OneEvaluation.{evaluation_one}
 
 theory_one : (name : List ℕ) (fs : List File) → IsOne (theory_stage name) fs
 theory_one name fs =
@@ -103,6 +104,7 @@ command_one (command.Check theory spec deriv) fs =
     (λ s found. behind_one (derivation_stage s deriv) (λ entries. behind (replay_stage t s entries) (λ p. giving (printed_program t p))) fs (derivation_one s (input_named found.0 s found.2.1) deriv fs)
     (λ entries listed. behind_one (replay_stage t s entries) (λ p. giving (printed_program t p)) fs (replay_one t s entries fs)
     (λ p proven. giving_one (printed_program t p) fs))))
+command_one (command.Eval theory program values) fs = evaluation_one theory program values fs
 
 -- so it asks for one status at most
 pub asks_once : (c : Command) (fs : List File) (r q : Status) → Asks c fs r → Asks c fs q → r ≡ q
@@ -118,9 +120,22 @@ three_words w a b c x y z e = (cc, cc, cc)
 same_check : (a b c x y z : List ℕ) → a ≡ x → b ≡ y → c ≡ z → command.Check a b c ≡ command.Check x y z
 same_check a b c x y z e f g = cc
 
+other_word : (a b : List (List ℕ)) → codes "check" ∷ a ≡ codes "eval" ∷ b → ⊥
+other_word a b e = absurd (cc)
+
+eval_words : (w a b x y : List ℕ) (vs zs : List (List ℕ)) → w ∷ a ∷ b ∷ vs ≡ w ∷ x ∷ y ∷ zs → (a ≡ x) × (b ≡ y) × (vs ≡ zs)
+eval_words w a b x y vs zs e = (cc, cc, cc)
+
+same_eval : (a b x y : List ℕ) (vs zs : List (List ℕ)) → a ≡ x → b ≡ y → vs ≡ zs → command.Eval a b vs ≡ command.Eval x y zs
+same_eval a b x y vs zs e f g = cc
+
 same_command : (words : List (List ℕ)) (c d : Command) → Fits words c → Fits words d → d ≡ c
 same_command words (command.Check a b c) (command.Check x y z) h k =
     let e = three_words (codes "check") x y z a b c (sym k.is ∙ h.is) in same_check x y z a b c e.0 e.1 e.2
+same_command words (command.Check a b c) (command.Eval x y zs) h k = absurd (other_word (a ∷ b ∷ c ∷ []) (x ∷ y ∷ zs) (sym h.is ∙ k.is))
+same_command words (command.Eval a b vs) (command.Check x y z) h k = absurd (other_word (x ∷ y ∷ z ∷ []) (a ∷ b ∷ vs) (sym k.is ∙ h.is))
+same_command words (command.Eval a b vs) (command.Eval x y zs) h k =
+    let e = eval_words (codes "eval") x y a b zs vs (sym k.is ∙ h.is) in same_eval x y a b zs vs e.0 e.1 e.2
 
 -- over told files and without faults, what comes is asked for, or it is want of memory
 told_asks : (s : Scene) (fs : List File) (c : Command) → IsQuiet s.reads s.reads_after → IsQuiet s.faults s.faults_after → (r : Status) → ComesFor (record s { files = Some fs }) c r → Asks c fs r ⊎ (r ≡ status.NoMemory)

@@ -26,3 +26,7 @@ most_body_levels = 1264
 -- the most bytes of a file
 abbrev pub most_bytes : ℕ
 most_bytes = 4194304
+
+-- the most turns of an evaluation
+abbrev pub most_turns : ℕ
+most_turns = 10000000

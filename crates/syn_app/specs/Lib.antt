@@ -19,6 +19,7 @@ pub mod Words
 pub mod Checks
 pub mod Comes
 pub mod Stages
+pub mod EvalWork
 pub mod Work
 pub mod Refusals
 pub mod ProgramTexts

@@ -4,7 +4,15 @@ use Rattle.syn_outside.specs.Files.{File, IsAbsent}
 use Rattle.syn_outside.specs.Faults.{Rose}
 use Rattle.syn_app.specs.Trees.{TheoryTree, SpecTree, ProgramTree}
 use Rattle.syn_app.specs.ProgramText.{printed_program}
+use Rattle.syn_value.specs.declared.tree.ValueTree.{ValueTree}
+use Rattle.syn_model.specs.Calls.{call_of}
+use Rattle.syn_model.specs.Evaluation.{Counted}
+use Rattle.syn_model.specs.Programs.{ProgramTree as FileProgram}
+use Rattle.syn_model.specs.Theories.{TheoryTree as FileTheory}
+use Rattle.syn_files.specs.ProgramLines.{IsProgramText}
+use Rattle.syn_eval.specs.Ending.{IsSpent, IsWithin, meaning_of}
 use Rattle.syn_app.specs.declared.command.Command.{Command}
+use Rattle.syn_app.specs.declared.command.Command.TheVariants as command
 use Rattle.syn_app.specs.declared.flat.Entry.{Entry}
 use Rattle.syn_app.specs.declared.status.Which.{Which}
 use Rattle.syn_app.specs.declared.status.Which.TheVariants as which
@@ -14,7 +22,9 @@ use Rattle.syn_app.specs.SpecText.{ExtendsSpec, IsSpecText, WholeSpec}
 use Rattle.syn_app.specs.Checks.{IsProven}
 use Rattle.syn_app.specs.Stages.{Has, IsShort, WhereTold}
 use Rattle.syn_app.specs.Words.{Fits}
-use Rattle.syn_app.specs.Work.{IsBadFor, IsDerivationFor, file_name}
+use Rattle.syn_app.specs.Bounds.{most_turns}
+use Rattle.syn_app.specs.EvalWork.{AreValueTexts, IsBadPlace, IsBadProgramFile, IsBadTheoryFile, IsTheoryFile, printed_result}
+use Rattle.syn_app.specs.Work.{IsBadFor, IsDerivationFor, file_name, value_words}
 
 -- the words are those of a command of which, where files are told, P holds over them
 abbrev pub OfCommand : List (List ℕ) → Option (List File) → (Command → List File → Type 0) → Type 0
@@ -48,6 +58,15 @@ IsBadSpec k b = IsShort b × IsFirstBad ExtendsSpec WholeSpec b k
 abbrev pub IsBadDerivation : SpecTree → ℕ → List ℕ → Type 0
 IsBadDerivation spec k d = IsShort d × IsBadFor spec d k
 
+-- the bytes are short enough, and line k is the first that is bad in the grammar of theories that the command reads
+abbrev pub IsBadTheoryFor : Command → ℕ → List ℕ → Type 0
+IsBadTheoryFor (command.Check theory spec deriv) k a = IsBadTheory k a
+IsBadTheoryFor (command.Eval theory program values) k a = IsShort a × IsBadTheoryFile a k
+
+-- line k of the command's theory is the first bad one
+abbrev pub HasBadTheory : ℕ → Command → List File → Type 0
+HasBadTheory k c fs = HasFile which.Theory (IsBadTheoryFor c k) c fs
+
 -- the command's theory is one, and line k of its specification is the first bad one
 pub record HasBadSpec (k : ℕ) (c : Command) (fs : List File) : Type 0 where
   pub theory : TheoryTree
@@ -75,3 +94,45 @@ pub record OfTexts (P : TheoryTree → SpecTree → List Entry → Type 0) (c : 
 -- the derivation is accepted, its program is correct where the axioms hold, and P holds of its printed text
 abbrev pub Writing : (List ℕ → Type 0) → TheoryTree → SpecTree → List Entry → Type 0
 Writing P theory spec entries = (p : ProgramTree) × IsProven theory spec entries p × P (printed_program theory p)
+
+-- the bytes are a text, short enough, of this theory, of this program over it, and line k of them is the first that is bad of a program
+abbrev pub ReadsTheoryFile : FileTheory → List ℕ → Type 0
+ReadsTheoryFile theory a = IsShort a × IsTheoryFile a theory
+
+abbrev pub ReadsProgram : FileTheory → FileProgram → List ℕ → Type 0
+ReadsProgram theory program b = IsShort b × IsProgramText theory.decls b program
+
+abbrev pub IsBadProgram : FileTheory → ℕ → List ℕ → Type 0
+IsBadProgram theory k b = IsShort b × IsBadProgramFile theory b k
+
+-- the command's theory is one, and line k of its program is the first bad one
+pub record HasBadProgram (k : ℕ) (c : Command) (fs : List File) : Type 0 where
+  pub theory : FileTheory
+  pub theory_text : HasFile which.Theory (ReadsTheoryFile theory) c fs
+  pub bad : HasFile which.Program (IsBadProgram theory k) c fs
+
+-- its two files are texts of a theory and a program of which, with the words of its values, P holds
+pub record OfProgram (P : FileTheory → FileProgram → List (List ℕ) → Type 0) (c : Command) (fs : List File) : Type 0 where
+  pub theory : FileTheory
+  pub program : FileProgram
+  pub theory_text : HasFile which.Theory (ReadsTheoryFile theory) c fs
+  pub program_text : HasFile which.Program (ReadsProgram theory program) c fs
+  pub holds : P theory program (value_words c)
+
+-- word k is the first that is no value of its input's sort, or the first too many, or wanting
+abbrev pub HasBadValue : ℕ → FileTheory → FileProgram → List (List ℕ) → Type 0
+HasBadValue k theory program words = IsBadPlace program.table 1 program.head.inputs words k
+
+-- the words are texts of values on which the program's call has no value within the turns, however deep calls may nest
+abbrev pub RunsLong : FileTheory → FileProgram → List (List ℕ) → Type 0
+RunsLong theory program words = (vs : List ValueTree) × AreValueTexts program.table program.head.inputs words vs × IsSpent (λ n. call_of (meaning_of theory.decls program) n vs) most_turns
+
+-- they are texts of values on which it has this value in so many turns, and P holds of the text that tells both
+abbrev pub Evaluating : (List ℕ → Type 0) → FileTheory → FileProgram → List (List ℕ) → Type 0
+Evaluating P theory program words =
+    (vs : List ValueTree) × AreValueTexts program.table program.head.inputs words vs × (c : Counted ValueTree) × IsWithin (λ n. call_of (meaning_of theory.decls program) n vs) most_turns c × P (printed_result c)
+
+-- what the command writes, of which P holds: the program of an accepted derivation, or a value and its turns
+abbrev pub Writes : (List ℕ → Type 0) → Command → List File → Type 0
+Writes P (command.Check theory spec deriv) fs = OfTexts (Writing P) (command.Check theory spec deriv) fs
+Writes P (command.Eval theory program values) fs = OfProgram (Evaluating P) (command.Eval theory program values) fs

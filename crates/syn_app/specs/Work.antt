@@ -1,5 +1,5 @@
 -- For public contracts: the work of each command, a composition of stages that passes with the text that goes to the sink.
-use Rattle.std.specs.Prelude.{◌≡◌, ◌⊎◌, ℕ, List, Option, Some}
+use Rattle.std.specs.Prelude.{◌≡◌, ◌⊎◌, ℕ, List, [], Option, None, Some}
 use Rattle.syn_outside.specs.Files.{File}
 use Rattle.syn_app.specs.Trees.{TheoryTree, SpecTree, ProgramTree}
 use Rattle.syn_app.specs.ProgramText.{printed_program}
@@ -17,12 +17,18 @@ use Rattle.syn_app.specs.DerivationText.{ExtendsDerivation, IsDerivationText, Wh
 use Rattle.syn_app.specs.Replay.{IsFirstToFail, IsUnfinished}
 use Rattle.syn_app.specs.Checks.{IsProven}
 use Rattle.syn_app.specs.Stages.{Stage, behind, giving, reading}
+use Rattle.syn_app.specs.EvalWork.{eval_work}
 
 -- the name of the file that a command reads so, if it does
 abbrev pub file_name : Command → Which → Option (List ℕ)
 file_name (command.Check theory spec deriv) which.Theory = Some theory
 file_name (command.Check theory spec deriv) which.Spec = Some spec
 file_name (command.Check theory spec deriv) which.Derivation = Some deriv
+file_name (command.Check theory spec deriv) which.Program = None
+file_name (command.Eval theory program values) which.Theory = Some theory
+file_name (command.Eval theory program values) which.Spec = None
+file_name (command.Eval theory program values) which.Derivation = None
+file_name (command.Eval theory program values) which.Program = Some program
 
 -- the theory is read; the specification is
 abbrev pub theory_stage : List ℕ → Stage TheoryTree
@@ -61,7 +67,13 @@ spec_work theory name deriv = behind (spec_stage name) (λ spec. derivation_work
 -- the work of a command
 abbrev pub work : Command → Stage (List ℕ)
 work (command.Check theory spec deriv) = behind (theory_stage theory) (λ t. spec_work t spec deriv)
+work (command.Eval theory program values) = eval_work theory program values
 
 -- what the command asks for, over these files: a status that its work settles, or Done where it passes
 abbrev pub Asks : Command → List File → Status → Type 0
 Asks c fs r = (work c).Settles fs r ⊎ ((r ≡ status.Done) × ((text : List ℕ) × (work c).Passes fs text))
+
+-- the words of the values that a command takes
+abbrev pub value_words : Command → List (List ℕ)
+value_words (command.Check theory spec deriv) = []
+value_words (command.Eval theory program values) = values

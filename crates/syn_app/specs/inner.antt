@@ -5,3 +5,4 @@ pub mod Says
 pub mod Printing
 pub mod Readers
 pub mod Shapes
+pub mod Evaluating

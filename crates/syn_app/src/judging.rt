@@ -13,8 +13,9 @@ ghost use Rattle.syn_app.specs.inner.Judging.{DerivationFails, EntriesFail, IsTh
 ghost use Rattle.syn_app.specs.inner.Requests.{command_asked};
 
 use crate::check::{check, symbols_of};
-use crate::command::{Command, Names, Request, names_of};
+use crate::command::{Command, Names, Request};
 use crate::derivation_text::read_derivation;
+use crate::evaluating::eval_text;
 use crate::flat::FlatRow;
 use crate::printing::print_program;
 use crate::replay::CheckError;
@@ -30,7 +31,12 @@ use syn_term::{NoMemory, Symbols, Term};
 const MOST_BYTES: u64 = 4_194_304;
 
 /// The bytes of a file.
-fn load<C: Cabinet>(alloc: Global, cab: &mut C, name: &str, which: Which) -> Result<Vec<u8>, Status>
+pub(crate) fn load<C: Cabinet>(
+    alloc: Global,
+    cab: &mut C,
+    name: &str,
+    which: Which,
+) -> Result<Vec<u8>, Status>
     ensures bytes { IfOk result (λ v. IsLoaded (C.files cab.old) name.now v.items) }
     ensures status { IfErr result (LoadFails which (C.read_faults cab.old) (C.read_faults cab.new) (C.files cab.old) name.now) }
     ensures files { C.files cab.new ≡ C.files cab.old }
@@ -206,7 +212,10 @@ pub(crate) fn command_text<C: Cabinet>(
     ensures later { C.read_faults cab.old ≤ C.read_faults cab.new }
     ensures tells { MatchResult result (λ _. C.read_faults cab.new ≡ C.read_faults cab.old) (λ e. TellsReads e (C.read_faults cab.old) (C.read_faults cab.new)) }
 {
-    check_text(alloc, cab, names_of(request))
+    match request {
+        Request::Check(names) => check_text(alloc, cab, names),
+        Request::Eval(names) => eval_text(alloc, cab, names),
+    }
 }
 
 /// Puts the text into the sink.

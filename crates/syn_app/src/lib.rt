@@ -5,6 +5,7 @@
 mod check;
 mod command;
 mod derivation_text;
+mod evaluating;
 mod flat;
 mod judging;
 mod lines;

@@ -12,6 +12,7 @@ pub enum Which {
     Theory,
     Spec,
     Derivation,
+    Program,
 }
 
 /// What a command came to. Lines and rows count from 1.
@@ -35,10 +36,16 @@ pub enum Status {
     NotFollows(u64),
     /// The last row is not final.
     NotFinal,
+    /// The value that is no text of a value of its sort, counted from 1.
+    BadValue(u64),
+    /// The evaluation took all turns that it may take.
+    TurnsSpent,
     /// The answer could not be written.
     WriteFault,
     /// Memory was refused.
     NoMemory,
+    /// The first line that is no line of a program.
+    BadProgram(u64),
 }
 
 /// The number that the process ends with.
@@ -55,8 +62,11 @@ pub fn status_code(status: &Status) -> u8
         Status::BadDerivation(_) => 7,
         Status::NotFollows(_) => 8,
         Status::NotFinal => 9,
+        Status::BadValue(_) => 10,
+        Status::TurnsSpent => 12,
         Status::WriteFault => 15,
         Status::NoMemory => 16,
+        Status::BadProgram(_) => 17,
     }
 }
 
@@ -75,8 +85,11 @@ pub fn status_line(alloc: Global, status: &Status) -> Result<String, NoMemory>
         Status::BadDerivation(line) => numbered(alloc, "bad derivation: line ", line, ""),
         Status::NotFollows(row) => numbered(alloc, "row ", row, " does not follow"),
         Status::NotFinal => plain(alloc, "not final"),
+        Status::BadValue(place) => numbered(alloc, "bad value: ", place, ""),
+        Status::TurnsSpent => plain(alloc, "turns spent"),
         Status::WriteFault => plain(alloc, "write fault"),
         Status::NoMemory => plain(alloc, "no memory"),
+        Status::BadProgram(line) => numbered(alloc, "bad program: line ", line, ""),
     }
 }
 
@@ -103,6 +116,7 @@ fn which_text(which: Which) -> &'static str
         Which::Theory => "theory",
         Which::Spec => "spec",
         Which::Derivation => "derivation",
+        Which::Program => "program",
     }
 }
 

@@ -4,10 +4,16 @@ use std::alloc::Global;
 use syn_app::{Status, status_line};
 
 /// The forms of words, each with what it does. A command adds a line here.
-const FORMS: [(&str, &str); 1] = [(
-    "check THEORY SPEC DERIV",
-    "check the derivation and print its program",
-)];
+const FORMS: [(&str, &str); 2] = [
+    (
+        "check THEORY SPEC DERIV",
+        "check the derivation and print its program",
+    ),
+    (
+        "eval THEORY PROGRAM VALUE..",
+        "evaluate the program on the values and print the value and the turns",
+    ),
+];
 
 /// Prints the line of the status, and after it the forms where the words had none. A command that
 /// did what it says needs no line.

@@ -52,7 +52,7 @@ pub fn with(which: Which, bytes: &[u8]) -> Texts<'_> {
             spec: bytes,
             ..same
         },
-        Which::Derivation => Texts {
+        Which::Derivation | Which::Program => Texts {
             deriv: bytes,
             ..same
         },
@@ -209,7 +209,7 @@ fn filled(alloc: Global, text: &str, first: &str, second: &str) -> Result<String
 }
 
 /// The bytes of a text with marks for line feeds and for a byte that is no text.
-fn unmarked(alloc: Global, text: &str) -> Result<Vec<u8>, AllocError> {
+pub fn unmarked(alloc: Global, text: &str) -> Result<Vec<u8>, AllocError> {
     let mut bytes = Vec::new(alloc);
     for byte in text.as_bytes() {
         bytes.push(match *byte {

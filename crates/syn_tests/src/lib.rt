@@ -8,6 +8,8 @@ mod bench;
 #[cfg(test)]
 mod derivations;
 #[cfg(test)]
+mod evaluations;
+#[cfg(test)]
 mod outside;
 #[cfg(test)]
 mod specifications;

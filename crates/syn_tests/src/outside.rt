@@ -74,6 +74,10 @@ fn judges_words_first(rt: HostRuntime) -> Result<(), Fail> {
         "find empty same d1",
         "Check empty same d1",
         "--help",
+        "eval",
+        "eval empty",
+        "eval  same 3",
+        "eval empty  3",
     ] {
         let want = "words: no such form";
         assert_answer(&rt, alloc, words, identity(), reading(1), want)?;
@@ -86,6 +90,8 @@ fn tells_which_file_is_not_there(rt: HostRuntime) -> Result<(), Fail> {
     for (words, want) in [
         ("check none same d1", "read fault: theory"),
         ("check empty none d1", "read fault: spec"),
+        ("eval none same 3", "read fault: theory"),
+        ("eval empty none 3", "read fault: program"),
         ("check empty same none", "read fault: derivation"),
         ("check none none none", "read fault: theory"),
     ] {

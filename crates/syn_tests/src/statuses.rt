@@ -33,8 +33,12 @@ fn tells_statuses(rt: HostRuntime) -> Result<(), Fail> {
         (Status::BadDerivation(10), 7, "bad derivation: line 10"),
         (Status::NotFollows(5), 8, "row 5 does not follow"),
         (Status::NotFinal, 9, "not final"),
+        (Status::BadValue(2), 10, "bad value: 2"),
+        (Status::TurnsSpent, 12, "turns spent"),
         (Status::WriteFault, 15, "write fault"),
         (Status::NoMemory, 16, "no memory"),
+        (Status::BadProgram(4), 17, "bad program: line 4"),
+        (read(Which::Program), 3, "read fault: program"),
     ] {
         assert_status(&rt, rt.alloc(), status, number, want)?;
     }
@@ -43,12 +47,14 @@ fn tells_statuses(rt: HostRuntime) -> Result<(), Fail> {
 
 /// Whether the command is the check of `a`, `check` and `c`.
 fn is_check(command: &Command) -> bool {
-    let Command::Check {
-        theory,
-        spec,
-        deriv,
-    } = command;
-    theory.as_str() == "a" && spec.as_str() == "check" && deriv.as_str() == "c"
+    match command {
+        Command::Check {
+            theory,
+            spec,
+            deriv,
+        } => theory.as_str() == "a" && spec.as_str() == "check" && deriv.as_str() == "c",
+        Command::Eval { .. } => false,
+    }
 }
 
 /// Whether the words are that command. None where they are of no form.
