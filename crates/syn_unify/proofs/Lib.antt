@@ -12,3 +12,6 @@ pub mod Stepping
 pub mod Loops
 pub mod Rooms
 pub mod Applied
+pub mod FormPairs
+pub mod FormLists
+pub mod FormEnds

@@ -19,7 +19,7 @@ use Rattle.syn_unify.proofs.Lookups.{image_is}
 use Rattle.syn_unify.proofs.Sizes.{nodes_at_symbol, nodes_bare, nodes_variable}
 use Rattle.syn_unify.proofs.Under.{map_twice, substituted_under, under_symbol, under_variable}
 
-depth_bare : (t : TermTree) → depth_of (bare t) ≡ depth_of t
+pub depth_bare : (t : TermTree) → depth_of (bare t) ≡ depth_of t
 depth_bare = fold-bare depth_step (λ p v. refl) (λ p f xs. refl)
 
 depth_variable : (p : Place) (v : Var) → depth_of (node.Var p v) ≡ 1
@@ -78,37 +78,38 @@ module _ {X : Type 0} (n d : X → ℕ) (ts : List X) (i : ℕ) (e x : X) (withi
       let s : n x ≤ left = omega (arith, k.0) in
       let t : d x ≤ height = omega (arith, k.1) in h (s, t)
 
-module _ (θ : Var → TermTree) (ts : List TermTree) (i : ℕ) (e x : TermTree) (within : i < length ts) (is : x ≡ get_or ts i e) (size height left : ℕ) where
-  abbrev come : List TermTree → List TermTree
-  come = map (under θ)
+-- what comes of several trees by a change: terms by `nodes` and `depth_of`, or formulas by theirs
+module _ {X : Type 0} (g : X → X) (n d : X → ℕ) (ts : List X) (i : ℕ) (e x : X) (within : i < length ts) (is : x ≡ get_or ts i e) (size height left : ℕ) where
+  abbrev come : List X → List X
+  come = map g
 
-  more : come (take (i + 1) ts) ≡ come (take i ts) ++ under θ x ∷ []
-  more = ap come (take_more ts i e within ∙ ap (λ (z : TermTree). take i ts ++ z ∷ []) (sym is)) ∙ map-append (under θ) (take i ts) (x ∷ [])
+  more : come (take (i + 1) ts) ≡ come (take i ts) ++ g x ∷ []
+  more = ap come (take_more ts i e within ∙ ap (λ (z : X). take i ts ++ z ∷ []) (sym is)) ∙ map-append g (take i ts) (x ∷ [])
 
-  nodes_of_more : sum (map nodes (come (take (i + 1) ts))) ≡ sum (map nodes (come (take i ts))) + nodes (under θ x)
-  nodes_of_more =
-      let a = ap (λ (zs : List TermTree). sum (map nodes zs)) more in
-      let b = sum_append nodes (come (take i ts)) (under θ x ∷ []) in
-      let c = sum_cons nodes (under θ x) [] in omega arith
+  sum_of_more : sum (map n (come (take (i + 1) ts))) ≡ sum (map n (come (take i ts))) + n (g x)
+  sum_of_more =
+      let a = ap (λ (zs : List X). sum (map n zs)) more in
+      let b = sum_append n (come (take i ts)) (g x ∷ []) in
+      let c = sum_cons n (g x) [] in omega arith
 
-  depth_of_more : greatest (map depth_of (come (take (i + 1) ts))) ≡ max (greatest (map depth_of (come (take i ts)))) (depth_of (under θ x))
-  depth_of_more =
-      let a : greatest (map depth_of (come (take (i + 1) ts))) ≡ greatest (map depth_of (come (take i ts)) ++ depth_of (under θ x) ∷ []) = ap greatest (ap (map depth_of) more ∙ map-append depth_of (come (take i ts)) (under θ x ∷ [])) in
-      let b = greatest-append (map depth_of (come (take i ts))) (depth_of (under θ x) ∷ []) in omega arith
+  greatest_of_more : greatest (map d (come (take (i + 1) ts))) ≡ max (greatest (map d (come (take i ts)))) (d (g x))
+  greatest_of_more =
+      let a : greatest (map d (come (take (i + 1) ts))) ≡ greatest (map d (come (take i ts)) ++ d (g x) ∷ []) = ap greatest (ap (map d) more ∙ map-append d (come (take i ts)) (g x ∷ [])) in
+      let b = greatest-append (map d (come (take i ts))) (d (g x) ∷ []) in omega arith
 
   -- one term more fits
-  pub room_more : (rest : ℕ) (o : Option ℕ) → o ≡ Some rest → sum (map nodes (come (take i ts))) + left ≡ size → greatest (map depth_of (come (take i ts))) ≤ height → HasRoom left height (nodes (under θ x)) (depth_of (under θ x)) o → (sum (map nodes (come (take (i + 1) ts))) + rest ≡ size) × (greatest (map depth_of (come (take (i + 1) ts))) ≤ height)
+  pub room_more : (rest : ℕ) (o : Option ℕ) → o ≡ Some rest → sum (map n (come (take i ts))) + left ≡ size → greatest (map d (come (take i ts))) ≤ height → HasRoom left height (n (g x)) (d (g x)) o → (sum (map n (come (take (i + 1) ts))) + rest ≡ size) × (greatest (map d (come (take (i + 1) ts))) ≤ height)
   room_more rest o has have deep h =
-      let k : (nodes (under θ x) + rest ≡ left) × (depth_of (under θ x) ≤ height) = subst (λ (z : Option ℕ). HasRoom left height (nodes (under θ x)) (depth_of (under θ x)) z) has h in
-      let a = nodes_of_more in
-      let b = depth_of_more in (omega (arith, k.0), omega (arith, k.1))
+      let k : (n (g x) + rest ≡ left) × (d (g x) ≤ height) = subst (λ (z : Option ℕ). HasRoom left height (n (g x)) (d (g x)) z) has h in
+      let a = sum_of_more in
+      let b = greatest_of_more in (omega (arith, k.0), omega (arith, k.1))
 
   -- one that doesn't
-  pub room_none : (o : Option ℕ) → o ≡ None → sum (map nodes (come (take i ts))) + left ≡ size → HasRoom left height (nodes (under θ x)) (depth_of (under θ x)) o → (sum (map nodes (come ts)) ≤ size) × (greatest (map depth_of (come ts)) ≤ height) → ⊥
+  pub room_none : (o : Option ℕ) → o ≡ None → sum (map n (come (take i ts))) + left ≡ size → HasRoom left height (n (g x)) (d (g x)) o → (sum (map n (come ts)) ≤ size) × (greatest (map d (come ts)) ≤ height) → ⊥
   room_none o has have h k =
-      let n : ¬ ((nodes (under θ x) ≤ left) × (depth_of (under θ x) ≤ height)) = subst (λ (z : Option ℕ). HasRoom left height (nodes (under θ x)) (depth_of (under θ x)) z) has h in
-      let a : map nodes (come ts) ≡ map (λ z. nodes (under θ z)) ts = map_twice nodes (under θ) ts in
-      let b : map depth_of (come ts) ≡ map (λ z. depth_of (under θ z)) ts = map_twice depth_of (under θ) ts in
-      let c : map nodes (come (take i ts)) ≡ map (λ z. nodes (under θ z)) (take i ts) = map_twice nodes (under θ) (take i ts) in
-      no_room (λ z. nodes (under θ z)) (λ z. depth_of (under θ z)) ts i e x within is size height left
-      (sym (ap (λ (zs : List ℕ). sum zs + left) c) ∙ have) n (subst (λ (zs : List ℕ). sum zs ≤ size) a k.0, subst (λ (zs : List ℕ). greatest zs ≤ height) b k.1)
+      let none : ¬ ((n (g x) ≤ left) × (d (g x) ≤ height)) = subst (λ (z : Option ℕ). HasRoom left height (n (g x)) (d (g x)) z) has h in
+      let a : map n (come ts) ≡ map (λ z. n (g z)) ts = map_twice n g ts in
+      let b : map d (come ts) ≡ map (λ z. d (g z)) ts = map_twice d g ts in
+      let c : map n (come (take i ts)) ≡ map (λ z. n (g z)) (take i ts) = map_twice n g (take i ts) in
+      no_room (λ z. n (g z)) (λ z. d (g z)) ts i e x within is size height left
+      (sym (ap (λ (zs : List ℕ). sum zs + left) c) ∙ have) none (subst (λ (zs : List ℕ). sum zs ≤ size) a k.0, subst (λ (zs : List ℕ). greatest zs ≤ height) b k.1)

@@ -34,14 +34,14 @@ use Rattle.syn_unify.proofs.Under.{bare_variable, under_agree, under_itself, und
 abbrev pub pair_of : TermTree → TermTree → Pair
 pair_of s t = record { left = s; right = t }
 
-pairs_to : (τ : Var → TermTree) (xs ys : List TermTree) → map (under τ) xs ≡ map (under τ) ys → All (Solves τ) (paired xs ys)
+pub pairs_to : (τ : Var → TermTree) (xs ys : List TermTree) → map (under τ) xs ≡ map (under τ) ys → All (Solves τ) (paired xs ys)
 pairs_to τ [] ys e = All-nil (Solves τ)
 pairs_to τ (x ∷ xs) [] e = All-nil (Solves τ)
 pairs_to τ (x ∷ xs) (y ∷ ys) e =
     let h : under τ x ≡ under τ y = cc in
     let k : map (under τ) xs ≡ map (under τ) ys = cc in All-cons (Solves τ) (pair_of x y) (paired xs ys) h (pairs_to τ xs ys k)
 
-pairs_from : (τ : Var → TermTree) (xs ys : List TermTree) → length xs ≡ length ys → All (Solves τ) (paired xs ys) → map (under τ) xs ≡ map (under τ) ys
+pub pairs_from : (τ : Var → TermTree) (xs ys : List TermTree) → length xs ≡ length ys → All (Solves τ) (paired xs ys) → map (under τ) xs ≡ map (under τ) ys
 pairs_from τ [] [] e a = refl
 pairs_from τ [] (y ∷ ys) e a = absurd (omega (arith, e))
 pairs_from τ (x ∷ xs) [] e a = absurd (omega (arith, e))

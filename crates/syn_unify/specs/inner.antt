@@ -1,3 +1,4 @@
 pub mod Changes
 pub mod Solutions
 pub mod Rooms
+pub mod Forms

@@ -1,10 +1,11 @@
-//! Unification: most general unifiers of two terms, and substitutions applied to terms within limits on
-//! what comes of it.
+//! Unification: most general unifiers of two terms and of formulas, and substitutions applied to terms
+//! within limits on what comes of it.
 #![tactic(auto)]
 
 mod applying;
 mod bindings;
 mod changing;
+mod forms;
 mod pairs;
 mod room;
 mod solving;
@@ -12,4 +13,4 @@ mod unifying;
 
 pub use applying::apply_term;
 pub use bindings::Subst;
-pub use unifying::unify_terms;
+pub use unifying::{unify_forms, unify_terms};
