@@ -1,0 +1,9 @@
+pub mod Changing
+pub mod FreeVariables
+pub mod Renamings
+pub mod Environments
+pub mod GivenForSome
+pub mod SubstitutedTruth
+pub mod SubstitutedEvaluation
+pub mod Basics
+pub mod BasicsHold
