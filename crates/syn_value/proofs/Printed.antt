@@ -49,15 +49,15 @@ all_text (v ∷ vs) = sym (next_text v vs)
 pub number_put : (a : Node) (n : ℕ) (old new : List ℕ) → a ≡ node.Num n → new ≡ old ++ decimal n → new ≡ old ++ value_text (meaning a)
 number_put a n old new is put = put ∙ ap (λ (z : List ℕ). old ++ z) (sym (ap value_text (ap meaning is ∙ meaning-Num n) ∙ text-Num n))
 
-three : (a b c whole old first second new : List ℕ) → whole ≡ a ++ (b ++ c) → first ≡ old ++ a → second ≡ first ++ b → new ≡ second ++ c → new ≡ old ++ whole
-three a b c whole old first second new is put_a put_b put_c =
-    put_c ∙ (ap (λ (z : List ℕ). z ++ c) (put_b ∙ ap (λ (z : List ℕ). z ++ b) put_a) ∙ (append_assoc (old ++ a) b c ∙ (append_assoc old a (b ++ c) ∙ ap (λ (z : List ℕ). old ++ z) (sym is))))
+three : (a b c old first second new : List ℕ) → first ≡ old ++ a → second ≡ first ++ b → new ≡ second ++ c → new ≡ old ++ (a ++ (b ++ c))
+three a b c old first second new put_a put_b put_c =
+    put_c ∙ (ap (λ (z : List ℕ). z ++ c) (put_b ∙ ap (λ (z : List ℕ). z ++ b) put_a) ∙ (append_assoc (old ++ a) b c ∙ append_assoc old a (b ++ c)))
 
-pub list_put : (a : Node) (s : Seq) (old first second new : List ℕ) → a ≡ node.List s → first ≡ old ++ codes "[" → second ≡ first ++ items_text (items s) → new ≡ second ++ codes "]" → new ≡ old ++ value_text (meaning a)
-list_put a s old first second new is = three (codes "[") (items_text (items s)) (codes "]") (value_text (meaning a)) old first second new (ap value_text (ap meaning is ∙ meaning-List s) ∙ text-List (items s))
+pub list_put : (a : Node) (s : Seq) (old new : List ℕ) → a ≡ node.List s → new ≡ old ++ (codes "[" ++ (items_text (items s) ++ codes "]")) → new ≡ old ++ value_text (meaning a)
+list_put a s old new is put = put ∙ ap (λ (z : List ℕ). old ++ z) (sym (ap value_text (ap meaning is ∙ meaning-List s) ∙ text-List (items s)))
 
-pub tuple_put : (a : Node) (s : Seq) (old first second new : List ℕ) → a ≡ node.Tuple s → first ≡ old ++ codes "(" → second ≡ first ++ items_text (items s) → new ≡ second ++ codes ")" → new ≡ old ++ value_text (meaning a)
-tuple_put a s old first second new is = three (codes "(") (items_text (items s)) (codes ")") (value_text (meaning a)) old first second new (ap value_text (ap meaning is ∙ meaning-Tuple s) ∙ text-Tuple (items s))
+pub tuple_put : (a : Node) (s : Seq) (old new : List ℕ) → a ≡ node.Tuple s → new ≡ old ++ (codes "(" ++ (items_text (items s) ++ codes ")")) → new ≡ old ++ value_text (meaning a)
+tuple_put a s old new is put = put ∙ ap (λ (z : List ℕ). old ++ z) (sym (ap value_text (ap meaning is ∙ meaning-Tuple s) ∙ text-Tuple (items s)))
 
 -- one item more
 pub item_put : (left : List ValueTree) (v : ValueTree) (vs : List ValueTree) (comma : Bool) (before mid new whole : List ℕ) → left ≡ v ∷ vs → before ++ next_items comma left ≡ whole → mid ≡ before ++ comma_text comma → new ≡ mid ++ value_text v → new ++ next_items true vs ≡ whole
@@ -65,10 +65,11 @@ item_put left v vs comma before mid new whole is kept put_comma put_item =
     ap (λ (z : List ℕ). z ++ next_items true vs) (put_item ∙ ap (λ (z : List ℕ). z ++ value_text v) put_comma)
     ∙ (append_assoc (before ++ comma_text comma) (value_text v) (next_items true vs) ∙ (append_assoc before (comma_text comma) (value_text v ++ next_items true vs) ∙ (ap (λ (z : List ValueTree). before ++ next_items comma z) (sym is) ∙ kept)))
 
--- all items were put
-pub items_put : (vs : List ValueTree) (comma : Bool) (left : List ValueTree) (before old : List ℕ) → left ≡ [] → before ++ next_items comma left ≡ old ++ next_items false vs → before ≡ old ++ items_text vs
-items_put vs comma left before old none kept =
-    sym (append-nil before) ∙ (ap (λ (z : List ValueTree). before ++ next_items comma z) (sym none) ∙ (kept ∙ ap (λ (z : List ℕ). old ++ z) (all_text vs)))
+-- all items were put, and what stands round them
+pub items_put : (vs : List ValueTree) (comma : Bool) (rest : List ValueTree) (left right old first before new : List ℕ) → rest ≡ [] → first ≡ old ++ left → before ++ next_items comma rest ≡ first ++ next_items false vs → new ≡ before ++ right → new ≡ old ++ (left ++ (items_text vs ++ right))
+items_put vs comma rest left right old first before new none put_left kept =
+    let all : before ≡ first ++ items_text vs = sym (append-nil before) ∙ (ap (λ (z : List ValueTree). before ++ next_items comma z) (sym none) ∙ (kept ∙ ap (λ (z : List ℕ). first ++ z) (all_text vs))) in
+    three left (items_text vs) right old first before new put_left all
 
 -- what follows where a call went well
 pub on_ok : {E : Type 0} (r : Result (Unit {0}) E) (P Q : Type 0) → (P → Q) → OnOk r P → OnOk r Q

@@ -82,7 +82,9 @@ pub fn default_term(
         Some(Shape::List { nil, .. }) => applied(alloc, bank, syms, *nil, &[], sort),
         Some(Shape::Tuple { make, parts }) => {
             let args = default_args(alloc, bank, syms, parts.as_slice())?;
-            applied(alloc, bank, syms, *make, args.as_slice(), sort)
+            let made = applied(alloc, bank, syms, *make, args.as_slice(), sort);
+            drop(args);
+            made
         }
     }
 }

@@ -32,29 +32,22 @@ fn put_node(out: &mut String, node: &Node) -> Result<(), NoMemory>
 {
     match node {
         Node::Num(n) => put_number(out, *n),
-        Node::List(seq) => {
-            put(out, "[")?;
-            put_items(out, seq)?;
-            put(out, "]")
-        }
-        Node::Tuple(seq) => {
-            put(out, "(")?;
-            put_items(out, seq)?;
-            put(out, ")")
-        }
+        Node::List(seq) => put_items(out, "[", seq, "]"),
+        Node::Tuple(seq) => put_items(out, "(", seq, ")"),
     }
 }
 
-/// The items, with a comma between.
+/// The items, with a comma between and the brackets round them.
 #[cycle(print)]
-fn put_items(out: &mut String, seq: &Seq) -> Result<(), NoMemory>
-    ensures { OnOk result (string_bytes out.new ≡ string_bytes out.old ++ items_text (items seq.now)) }
+fn put_items(out: &mut String, left: &str, seq: &Seq, right: &str) -> Result<(), NoMemory>
+    ensures { OnOk result (string_bytes out.new ≡ string_bytes out.old ++ (left.now ++ (items_text (items seq.now) ++ right.now))) }
 {
+    put(out, left)?;
     let mut rest = seq;
     let mut inside = false;
     loop {
         match rest.parts() {
-            None => return Ok(()),
+            None => return put(out, right),
             Some((item, next)) => {
                 put_comma(out, inside)?;
                 put_node(out, item)?;

@@ -1,6 +1,7 @@
 // A value is read from the end of its text to its start: so each item is put in front of those behind
 // it, and no list is turned round. What is open stands on a stack, and nothing calls itself.
-ghost use Rattle.std.specs.Prelude.{◌≡◌, ◌≤◌, Some, IsTrue, IfOk, OnOk};
+ghost use Rattle.std.specs.Prelude.{◌≡◌, ◌≤◌, Some, IsTrue, IfOk, OnOk, false};
+ghost use Rattle.syn_value.specs.declared.reader.Kind.TheVariants as kinds;
 ghost use Rattle.syn_value.specs.inner.Machine as machine;
 ghost use Rattle.syn_value.specs.inner.Machine.{Leads, Makes};
 
@@ -210,15 +211,26 @@ impl Frame {
             drop(items);
             return Err(ValueError::BadValue);
         }
-        match items.parts()? {
-            None => Err(ValueError::BadValue),
-            Some((first, rest)) => {
-                if rest.is_empty() {
-                    Ok(first)
-                } else {
-                    Err(ValueError::BadValue)
-                }
+        single(items)
+    }
+}
+
+/// The one value of these.
+fn single(items: Values) -> Result<Value, ValueError>
+    ensures { Makes result (machine.only_in kinds.Whole false items) }
+{
+    let split = items.parts();
+    drop(items);
+    match split? {
+        None => Err(ValueError::BadValue),
+        Some((first, rest)) => {
+            let alone = rest.is_empty();
+            drop(rest);
+            if alone {
+                return Ok(first);
             }
+            drop(first);
+            Err(ValueError::BadValue)
         }
     }
 }

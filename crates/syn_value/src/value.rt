@@ -169,8 +169,13 @@ impl Values {
             None => Ok(None),
             Some((item, rest)) => {
                 let node = item.again()?;
-                let seq = rest.again()?;
-                Ok(Some((Value { node }, Values { seq })))
+                match rest.again() {
+                    Ok(seq) => Ok(Some((Value { node }, Values { seq }))),
+                    Err(error) => {
+                        drop(node);
+                        Err(error.into())
+                    }
+                }
             }
         }
     }

@@ -45,8 +45,8 @@ default_term-returns-in-Some-List-clause-tree t c =
 pub default_term-returns-in_ok-args-in-Some-Tuple-clause-tree : goal.default_term-returns-in_ok-args-in-Some-Tuple-clause-tree
 default_term-returns-in_ok-args-in-Some-Tuple-clause-tree t c =
     let told = tuple_told (shape_of_sort c.args.syms.now c.args.sort) _ _ _ c.as_slice.result.now c.in-Some-Tuple.ensures.shape c.in-Some-Tuple.field-0-is c.as_slice.ensures in
-    tuple_tree c.args.syms.now c.args.sort _ _ c.in_ok-args-in-Some-Tuple.args c.as_slice-in-Some-Tuple.result.now c.applied-in-Some-Tuple.result c.shape.ensures.table told c.as_slice-in-Some-Tuple.ensures c.in_ok-args-in-Some-Tuple.ensures.tree c.applied-in-Some-Tuple.ensures.tree
+    tuple_tree c.args.syms.now c.args.sort _ _ c.in_ok-args-in-Some-Tuple.args c.as_slice-in-Some-Tuple.result.now c.applied-made.result c.shape.ensures.table told c.as_slice-in-Some-Tuple.ensures c.in_ok-args-in-Some-Tuple.ensures.tree c.applied-made.ensures.tree
 
 pub default_term-returns-in_ok-args-in-Some-Tuple-clause-extends : goal.default_term-returns-in_ok-args-in-Some-Tuple-clause-extends
 default_term-returns-in_ok-args-in-Some-Tuple-clause-extends t c =
-    Extends-trans c.args.bank.now c.default_args.new.bank c.applied-in-Some-Tuple.new.bank c.default_args.ensures.extends c.applied-in-Some-Tuple.ensures.extends
+    Extends-trans c.args.bank.now c.default_args.new.bank c.applied-made.new.bank c.default_args.ensures.extends c.applied-made.ensures.extends

@@ -10,5 +10,5 @@ decreases-put_items l = goal.size-put_items l
 abbrev pub decreases-put_node : goal.decreases-put_node
 decreases-put_node l = goal.size-put_node l
 
-abbrev pub invariant-put_items-loop-item : goal.invariant-put_items-loop-item
-invariant-put_items-loop-item l = (size-Seq l.rest ≤ size-Seq l.fn.seq) × (string_bytes l.out ++ next_items l.inside (items l.rest) ≡ string_bytes l.initial.out ++ next_items false (items l.fn.seq))
+abbrev pub invariant-put_items-loop-out : goal.invariant-put_items-loop-out
+invariant-put_items-loop-out l = (size-Seq l.rest ≤ size-Seq l.fn.seq) × (string_bytes l.out ++ next_items l.inside (items l.rest) ≡ string_bytes l.initial.out ++ next_items false (items l.fn.seq))
