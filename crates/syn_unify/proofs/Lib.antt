@@ -15,3 +15,10 @@ pub mod Applied
 pub mod FormPairs
 pub mod FormLists
 pub mod FormEnds
+pub mod FormSums
+pub mod RoomForms
+pub mod BareCounts
+pub mod TermsChanged
+pub mod FormsApplied
+pub mod Parts
+pub mod Raised

@@ -1,5 +1,6 @@
 -- For public contracts: what a substitution binds, how large a tree may be that comes of one, and how many nodes are made anew then.
-use Rattle.std.specs.Prelude.{◌≡◌, ◌+◌, ◌≤◌, ℕ, suc, List, [], ◌∷◌, All, Option, None, Some, if◌then◌else◌}
+use Rattle.std.specs.Prelude.{◌≡◌, ◌+◌, ◌≤◌, ℕ, suc, List, [], ◌∷◌, map, sum, All, Option, None, Some, if◌then◌else◌}
+use Rattle.std.specs.List.{flat_map}
 use Rattle.std.specs.Option.{option_map, unwrap_or}
 use Rattle.syn_term.specs.Bank.{Kept, Belongs}
 use Rattle.syn_term.specs.declared.sorts.Var.{Var}
@@ -8,11 +9,16 @@ use Rattle.syn_term.specs.declared.term.Node.TheOpen.{Node-F}
 use Rattle.syn_term.specs.Symbols.{SymbolTable}
 use Rattle.syn_term.specs.Terms.{TermTree}
 use Rattle.syn_form.specs.Substitutions.{Substitution, KeepsSorts, same_var}
+use Rattle.syn_form.specs.Trees.{FormTree, OutTree, form_terms, out_terms, term_vars}
 
 -- the term of the first binding of the variable; none where there is none
 abbrev pub bound_to : Substitution → Var → Option TermTree
 bound_to [] v = None
 bound_to (b ∷ bs) v = if same_var b.var v then Some b.term else bound_to bs v
+
+-- the variables of the terms that a substitution puts in
+abbrev pub bound_vars : Substitution → List Var
+bound_vars = flat_map (λ b. term_vars b.term)
 
 -- no two bindings are of one variable
 abbrev pub BindsOnce : Substitution → Type 0
@@ -63,3 +69,16 @@ bound_cost σ v = option_map (λ t. 0) (bound_to σ v)
 -- the number of symbols of the term that a bound variable stands under
 abbrev pub over_bound : Substitution → TermTree → ℕ
 over_bound σ = remade_nodes (bound_cost σ)
+
+-- the same of all terms of a formula, and of an output
+abbrev pub remade_in_form : (Var → Option ℕ) → FormTree → ℕ
+remade_in_form cost f = sum (map (remade_nodes cost) (form_terms f))
+
+abbrev pub remade_in_out : (Var → Option ℕ) → OutTree → ℕ
+remade_in_out cost o = sum (map (remade_nodes cost) (out_terms o))
+
+abbrev pub form_over_bound : Substitution → FormTree → ℕ
+form_over_bound σ = remade_in_form (bound_cost σ)
+
+abbrev pub out_over_bound : Substitution → OutTree → ℕ
+out_over_bound σ = remade_in_out (bound_cost σ)

@@ -1,2 +1,4 @@
+pub mod Apart
 pub mod Bindings
+pub mod OutTerms
 pub mod inner

@@ -13,10 +13,10 @@ use std::alloc::Global;
 use syn_term::{Bank, NoMemory, Symbols, Term};
 
 /// A tree that comes of a substitution has at most so many nodes.
-const MOST_NODES: u32 = 65_536;
+pub(crate) const MOST_NODES: u32 = 65_536;
 
 /// And at most this depth.
-const MOST_DEPTH: u32 = 2_400;
+pub(crate) const MOST_DEPTH: u32 = 2_400;
 
 /// Whether what comes of the term isn't too large.
 fn fits(s: &Subst, t: &Term) -> bool

@@ -242,3 +242,31 @@ pub(crate) fn whole_term(
         Err(error) => Err(error),
     }
 }
+
+/// The terms with their variables changed.
+#[tactic(auto, using(crate::proofs::Growth::growth))]
+pub(crate) fn whole_terms(
+    alloc: Global,
+    bank: &mut Bank,
+    syms: &Symbols,
+    change: &Change<'_>,
+    ts: &[Term],
+) -> Result<Items<Term>, NoMemory>
+    requires sorts { HoldsSorts syms.now (becomes change.now) }
+    requires held { IsOwn bank.old change.now }
+    requires sorted { All (IsSorted syms.now) ts.now }
+    requires own { All (Belongs bank.old) ts.now }
+    ensures tree { IfOk result (λ us. map bare us ≡ map (under (becomes change.now)) ts.now) }
+    ensures made { bank.new.made ≤ bank.old.made + sum (map (remade_nodes (cost change.now)) ts.now) }
+    ensures extends { Extends bank.old bank.new }
+    ensures belongs { IfOk result (All (Belongs bank.new)) }
+{
+    let mut done = Items::new(alloc);
+    match put_changed(alloc, bank, syms, change, ts, &mut done) {
+        Ok(()) => Ok(done),
+        Err(error) => {
+            drop(done);
+            Err(error)
+        }
+    }
+}

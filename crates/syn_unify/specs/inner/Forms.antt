@@ -3,14 +3,19 @@ use Rattle.std.specs.Prelude.{◌≡◌, Bool, true, false, List, ◌++◌, map,
 use Rattle.syn_term.specs.declared.sorts.Var.{Var}
 use Rattle.syn_term.specs.Terms.{TermTree}
 use Rattle.syn_form.specs.Inputs.{on_terms}
-use Rattle.syn_form.specs.Trees.{FormTree}
+use Rattle.syn_form.specs.Trees.{FormTree, OutTree}
 use Rattle.syn_unify.specs.declared.pairs.Pair.{Pair}
+use Rattle.syn_unify.specs.OutTerms.{out_on_terms}
 use Rattle.syn_unify.specs.inner.Changes.{under}
 use Rattle.syn_unify.specs.inner.Solutions.{Solves}
 
 -- the formula with each variable replaced, its terms without places
 abbrev pub form_under : (Var → TermTree) → FormTree → FormTree
 form_under τ = on_terms (under τ)
+
+-- the same for an output
+abbrev pub out_under : (Var → TermTree) → OutTree → OutTree
+out_under τ = out_on_terms (under τ)
 
 -- τ makes the two formulas one
 abbrev pub AreOne : FormTree → FormTree → (Var → TermTree) → Type 0
