@@ -1,0 +1,5 @@
+use Rattle.syn_eval_tests.proofs.Fitting.{less_fit}
+use Rattle.syn_eval_tests.proofs.calls.told.Goals as goal
+
+pub holds-requires : goal.holds-requires
+holds-requires c = less_fit _ _ _ c.as_slice.ensures c.requires c.in_ok-args.ensures

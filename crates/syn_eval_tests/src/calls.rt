@@ -1,0 +1,151 @@
+// Calls with their values and turns, and formulas with their truth values.
+ghost use Rattle.std.specs.Prelude.{◌≤◌, ◌^◌};
+
+use crate::problems::{args_of, form_of, program_of, spec_of, theory_of};
+use std::alloc::Global;
+use std::process::Abort;
+use std::test::Fail;
+use syn_cases::cut;
+use syn_eval::{EvalError, eval, holds};
+use syn_model::{Spec, Theory};
+use syn_term::decimal_number;
+use syn_value::print_value;
+
+/// A head and a body; values of the inputs and the turns that are given; and the value with the turns
+/// that it took, `spent` where there is none.
+const CALLS: &str = "\
+t(a: nat): z: nat | if a = 0 then 0 else s(s(t(p(a)))) | 3 | 13 => 6 in 13
+t(a: nat): z: nat | if a = 0 then 0 else s(s(t(p(a)))) | 3 | 12 => spent
+t(a: nat): z: nat | if a = 0 then 0 else s(s(t(p(a)))) | 3 | 900 => 6 in 13
+t(a: nat): z: nat | if a = 0 then 0 else s(s(t(p(a)))) | 0 | 1 => 0 in 1
+t(a: nat): z: nat | if a = 0 then 0 else s(s(t(p(a)))) | 0 | 0 => spent
+n(a: L): z: nat | len(a) | [5,6,7] | 8 => 3 in 8
+n(a: L): z: nat | len(a) | [5,6,7] | 7 => spent
+o(a: nat, b: nat): z: nat | if below(a, b) then 1 else 0 | 2 5 | 3 => 1 in 3
+o(a: nat, b: nat): z: nat | if below(a, b) then 1 else 0 | 2 5 | 2 => spent
+o(a: nat, b: nat): z: nat | if below(a, b) then 1 else 0 | 5 2 | 2 => 0 in 2
+f(a: nat): z: nat | f(a) | 3 | 300 => spent
+v(a: nat): z: nat | a | 1000000 | 1 => 1000000 in 1
+v(a: nat): z: nat | 2 | 0 | 3 => 2 in 3
+v(a: nat): z: nat | 2 | 0 | 2 => spent
+j(a: L, b: L): z: L | app(a, b) | [1,2] [3] | 100 => [1,2,3] in 6
+j(a: L, b: L): z: L | tail(a) | [1,2] [3] | 100 => [2] in 2
+j(a: L, b: L): z: L | cons(head(a), b) | [] [3] | 3 => [0,3] in 3
+j(a: L, b: L): z: L | if shorter(a, a, b, b) then a else b | [1] [2,3] | 10 => [1] in 10
+w(a: P): z: P | swap(a, 7) | (3,[4]) | 20 => (7,[3,4]) in 11
+m(a: nat, b: nat): z: nat | least(a, b) | 3 5 | 100 => 3 in 13
+m(a: nat, b: nat): z: nat | if a = b and le(a, b) then a else b | 3 5 | 12 => 5 in 12
+m(a: nat, b: nat): z: nat | if a = b and le(a, b) then a else b | 3 5 | 11 => spent
+m(a: nat, b: nat): z: nat | if a = a or le(a, b) then a else b | 3 5 | 12 => 3 in 12
+m(a: nat, b: nat): z: nat | if a = a or le(a, b) then a else b | 3 5 | 11 => spent
+m(a: nat, b: nat): z: nat | if not a = a -> le(a, b) then a else b | 3 5 | 11 => spent
+m(a: nat, b: nat): z: nat | if not a = a -> le(a, b) then a else b | 3 5 | 12 => 3 in 12";
+
+/// A head and a formula over its inputs; values and turns; and whether it is true.
+const FORMULAS: &str = "\
+f(a: nat, b: nat): z: nat | le(a, b) | 3 5 | 11 => yes
+f(a: nat, b: nat): z: nat | le(a, b) | 3 5 | 10 => spent
+f(a: nat, b: nat): z: nat | le(a, b) | 0 0 | 1 => yes
+f(a: nat, b: nat): z: nat | le(a, b) | 2 0 | 1 => no
+f(a: nat, b: nat): z: nat | lt(a, b) | 0 0 | 3 => no
+f(a: nat, b: nat): z: nat | lt(a, b) | 0 0 | 2 => spent
+f(a: nat, b: nat): z: nat | a = 0 and le(a, b) | 3 5 | 10 => spent
+f(a: nat, b: nat): z: nat | a = 0 and le(a, b) | 3 5 | 11 => no
+f(a: nat, b: nat): z: nat | true or le(a, b) | 3 5 | 10 => spent
+f(a: nat, b: nat): z: nat | true or le(a, b) | 3 5 | 11 => yes
+f(a: nat, b: nat): z: nat | false -> le(a, b) | 3 5 | 10 => spent
+f(a: nat, b: nat): z: nat | false -> le(a, b) | 3 5 | 11 => yes
+f(a: nat, b: nat): z: nat | true -> false | 3 5 | 0 => no
+f(a: nat, b: nat): z: nat | not a = b | 3 5 | 0 => yes
+f(a: nat, b: nat): z: nat | below(b, a) | 3 5 | 1 => no
+f(a: L, b: L): z: nat | a = b | [1,2] [1,2] | 0 => yes
+f(a: L, b: L): z: nat | shorter(a, a, b, b) | [1] [1,2] | 9 => yes
+f(a: L, b: L): z: nat | shorter(a, a, b, b) | [1] [1,2] | 8 => spent";
+
+/// The parts of a row before its answer.
+#[derive(Clone, Copy)]
+struct Case<'a> {
+    head: &'a str,
+    text: &'a str,
+    args: &'a str,
+    turns: u64,
+}
+
+fn case_of(line: &str) -> Case<'_>
+    ensures { result.turns ≤ 2 ^ 32 }
+{
+    let (head, rest) = cut(line, " | ");
+    let (text, rest) = cut(rest, " | ");
+    let (args, turns) = cut(rest, " | ");
+    Case {
+        head,
+        text,
+        args,
+        turns: u64::from(decimal_number(turns).unwrap_or(0)),
+    }
+}
+
+/// The value with its turns, as the table writes it.
+fn called(alloc: Global, theory: &Theory, spec: &Spec, case: &Case<'_>) -> Result<String, Fail>
+    requires { (case.now).turns ≤ 2 ^ 32 }
+{
+    let args = args_of(alloc, spec, case.args)?;
+    let program = program_of(alloc, theory, spec, case.text)?;
+    match eval(alloc, theory, &program, args.as_slice(), case.turns) {
+        Ok((value, turns)) => {
+            let text = print_value(alloc, &value)?;
+            Ok(format!(in alloc; "{} in {turns}", text.as_str())?)
+        }
+        Err(EvalError::TurnsSpent) => Ok(String::from_str(alloc, "spent")?),
+        Err(EvalError::NoMemory) => Err(Fail::new("no memory")),
+    }
+}
+
+/// The truth value, as the table writes it.
+fn told(alloc: Global, theory: &Theory, spec: &Spec, case: &Case<'_>) -> Result<&'static str, Fail>
+    requires { (case.now).turns ≤ 2 ^ 32 }
+{
+    let args = args_of(alloc, spec, case.args)?;
+    let form = form_of(alloc, spec.symbols(), case.text)?;
+    match holds(
+        alloc,
+        theory,
+        spec.symbols(),
+        &form,
+        args.as_slice(),
+        case.turns,
+    ) {
+        Ok(true) => Ok("yes"),
+        Ok(false) => Ok("no"),
+        Err(EvalError::TurnsSpent) => Ok("spent"),
+        Err(EvalError::NoMemory) => Err(Fail::new("no memory")),
+    }
+}
+
+#[test]
+fn evaluates_calls(rt: HostRuntime) -> Result<(), Fail> {
+    let alloc = rt.alloc();
+    let theory = theory_of(alloc)?;
+    for line in CALLS.lines() {
+        let (case, want) = cut(line, " => ");
+        let case = case_of(case);
+        let spec = spec_of(alloc, &theory, case.head)?;
+        let got = called(alloc, &theory, &spec, &case)?;
+        assert_eq!(rt; got.as_str(), want, "at {line}");
+    }
+    Ok(())
+}
+
+#[test]
+fn tells_truth(rt: HostRuntime) -> Result<(), Fail> {
+    let alloc = rt.alloc();
+    let theory = theory_of(alloc)?;
+    for line in FORMULAS.lines() {
+        let (case, want) = cut(line, " => ");
+        let case = case_of(case);
+        let spec = spec_of(alloc, &theory, case.head)?;
+        let got = told(alloc, &theory, &spec, &case)?;
+        assert_eq!(rt; got, want, "at {line}");
+    }
+    Ok(())
+}
