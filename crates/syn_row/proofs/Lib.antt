@@ -18,3 +18,17 @@ pub mod CanonicalRows
 pub mod RowPlain
 pub mod RowSizes
 pub mod Ends
+pub mod Agreeing
+pub mod Taking
+pub mod General
+pub mod Shape
+pub mod GuardsChanged
+pub mod PartsChanged
+pub mod AllChanged
+pub mod Alike
+pub mod Leading
+pub mod SortedVars
+pub mod Passed
+pub mod Still
+pub mod Pairs
+pub mod PartsMoved

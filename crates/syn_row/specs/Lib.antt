@@ -1,3 +1,5 @@
 pub mod Rows
+pub mod Guards
+pub mod Results
 pub mod RowLaws
 pub mod inner

@@ -3,6 +3,8 @@
 //! all variants of a simplified row have in common.
 #![tactic(auto)]
 
+mod direction;
+mod guards;
 mod limits;
 mod normalizing;
 mod occurrences;
@@ -10,6 +12,8 @@ mod plain;
 mod renumbering;
 mod rows;
 
+pub use direction::Dir;
+pub use guards::GuardRule;
 pub use limits::{ROW_DEPTH, ROW_NODES, is_within};
 pub use normalizing::canonical;
 pub use plain::is_plain_row;

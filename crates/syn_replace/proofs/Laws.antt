@@ -1,0 +1,191 @@
+-- The choices of equality replacement, that the figures of two choices are alike, and that the rule gives one row at most.
+use Rattle.std.proofs.Common.{◌≡◌, ℕ, false, List, [], ◌∷◌, Option, Some, All, Contains, IfSome, ◌∙◌, ap}
+use Rattle.std.specs.List.{flat_map}
+use Rattle.std.specs.Option.{option_map, option_map_or}
+use Rattle.std.proofs.lemmas.List.Elements.{Contains-append_cases, Contains-append_left, Contains-append_right}
+use Rattle.std.proofs.Common.{◌⊎◌, inl, inr}
+use Rattle.syn_term.specs.declared.sorts.Var.{Var}
+use Rattle.syn_term.specs.Symbols.{SymbolTable}
+use Rattle.syn_term.specs.Terms.{TermTree, bare}
+use Rattle.syn_form.specs.declared.trees.Form.TheVariants as form
+use Rattle.syn_form.specs.declared.trees.Side.{Side}
+use Rattle.syn_form.specs.Positions.{at_position, formula, term}
+use Rattle.syn_form.specs.Replacing.{form_replaced_at, replaced_all}
+use Rattle.syn_form.specs.Substitutions.{IsUnifierOfTerms, Substitution, substituted, substituted_form, substituted_out}
+use Rattle.syn_form.specs.Trees.{FormTree, bare_form, form_terms, form_vars, out_vars, term_vars}
+use Rattle.syn_form.proofs.Lists.{none_in_nil}
+use Rattle.syn_row.specs.declared.direction.Dir.{Dir}
+use Rattle.syn_row.specs.declared.direction.Dir.TheVariants as dir
+use Rattle.syn_row.specs.declared.guards.GuardRule.{GuardRule}
+use Rattle.syn_row.specs.Guards.{IsGuardRule}
+use Rattle.syn_row.specs.Results.{AreApart, Figure, Gives, joined_form, joined_side}
+use Rattle.syn_row.specs.Rows.{IsPlain, RowTree, bare_row}
+use Rattle.syn_row.proofs.Renaming.{Within, renaming_by}
+use Rattle.syn_replace.specs.Replacement.{EqualGives, looked_for, put_there, replaced}
+use Rattle.syn_replace.specs.ReplaceLaws.{ReplaceLaws}
+use Rattle.syn_row.proofs.Agreeing.{AreAmong}
+use Rattle.syn_row.proofs.Alike.{AreAlike, alike_gives, alike_one, renamed_form}
+use Rattle.syn_row.proofs.General.{Passes, image_vars}
+use Rattle.syn_row.proofs.Leading.{Moving, term_trees, unifiers_pass}
+use Rattle.syn_row.proofs.Pairs.{first_moved, form_among, pair_guards_passed, pair_known, pair_moving, pair_outs_passed, pair_over, pair_vars, row_form_passed, row_out_passed, row_passed, second_moved, side_moved}
+use Rattle.syn_row.proofs.PartsMoved.{form_at_both, form_idle, row_idle, sides_among, sides_moved, term_at_both, term_idle}
+use Rattle.syn_row.proofs.Passed.{IsMoved, chosen_passed, form_passed, instance_inside, joined_passed, placed_passed, replaced_passed, term_passed}
+use Rattle.syn_row.proofs.Still.{Related, idle, part_among, related_alike, term_part_among}
+
+-- what equality replacement chooses: rows kept apart, and a most general unifier of the side and the term
+pub record ReplaceChoice (table : SymbolTable) (r : RowTree) (at : List ℕ) (way : Dir) (s : RowTree) (place : List ℕ) : Type 0 where
+  pub first : RowTree
+  pub second : RowTree
+  pub apart : AreApart r s first second
+  pub left : TermTree
+  pub right : TermTree
+  pub there : at_position at (formula first.form) ≡ Some (formula (form.Equal left right))
+  pub old : TermTree
+  pub old_there : at_position place (formula second.form) ≡ Some (term old)
+  pub unifier : Substitution
+  pub general : IsUnifierOfTerms table (looked_for way left right ∷ old ∷ []) unifier
+
+abbrev pub replace_figure : (table : SymbolTable) (rule : Option GuardRule) (r : RowTree) (at : List ℕ) (way : Dir) (s : RowTree) (place : List ℕ) → ReplaceChoice table r at way s place → Figure
+replace_figure table rule r at way s place c = replaced rule c.unifier (substituted_form c.unifier (form.Equal c.left c.right)) place (substituted c.unifier (put_there way c.left c.right)) c.first c.second
+
+-- what holds of both sides holds of the one that is looked for, and of the other
+either_side : (P : TermTree → TermTree → Type 0) (way : Dir) (s t s' t' : TermTree) → P s s' → P t t' → P (looked_for way s t) (looked_for way s' t') × P (put_there way s t) (put_there way s' t')
+either_side P dir.Lr s t s' t' a b = (a, b)
+either_side P dir.Rl s t s' t' a b = (b, a)
+
+module _ (table : SymbolTable) (rule : Option GuardRule) (is : IfSome rule (IsGuardRule table)) where
+  replace_related : (vars : List Var) (σ τ : Substitution) (over : Var → Var) (w : Passes vars σ τ over) (m : Moving vars over) (first first' second second' : RowTree) → IsMoved vars over first first' → IsMoved vars over second second' → (e e' : FormTree) → All (Within (image_vars σ vars)) (form_terms e) → renamed_form w.renaming e ≡ bare_form e' → (place : List ℕ) (new new' : TermTree) → bare (substituted w.renaming new) ≡ bare new' → Related w.renaming (replaced rule σ e place new first second) (replaced rule τ e' place new' first' second')
+  replace_related vars σ τ over w m first first' second second' h k e e' inside same place new new' put =
+      let guards = pair_guards_passed vars σ τ over w m first first' second second' h k table rule is e e' same in
+      let one_form = row_form_passed vars σ τ over w m first first' h in
+      let other_form = row_form_passed vars σ τ over w m second second' k in
+      let x = replaced rule σ e place new first second in
+      let y = replaced rule τ e' place new' first' second' in
+      let first_side = side_moved vars σ τ over w m first first' h in
+      let second_side = side_moved vars σ τ over w m second second' k in
+      record {
+        forms = ap (λ (z : FormTree). z ∷ renamed_form w.renaming (substituted_form σ second.form) ∷ []) one_form ∙ ap (λ (z : FormTree). bare_form (substituted_form τ first'.form) ∷ z ∷ []) other_form;
+        outs = pair_outs_passed vars σ τ over w m first first' second second' h k;
+        guards = guards;
+        row = row_passed w.renaming x.row.side y.row.side x.row.form y.row.form x.row.out y.row.out
+            (ap (λ (z : Side). joined_side z second.side) first_side ∙ ap (joined_side first'.side) second_side)
+            (joined_passed vars σ τ over w m first.side second.side (replaced_all e false (substituted_form σ first.form)) (form_replaced_at place new (substituted_form σ second.form)) (replaced_all e' false (substituted_form τ first'.form)) (form_replaced_at place new' (substituted_form τ second'.form)) x.guards y.guards
+            (replaced_passed vars σ τ over w m e e' (substituted_form σ first.form) (substituted_form τ first'.form) false inside (instance_inside vars σ τ over w m first.form (form_among vars σ τ over w m first first' h)) same one_form)
+            (placed_passed vars σ τ over w m place new new' (substituted_form σ second.form) (substituted_form τ second'.form) put other_form)
+            guards
+            ∙ (ap (λ (z : Side). bare_form (joined_form z (replaced_all e' false (substituted_form τ first'.form)) second.side (form_replaced_at place new' (substituted_form τ second'.form)) y.guards)) first_side
+            ∙ ap (λ (z : Side). bare_form (joined_form first'.side (replaced_all e' false (substituted_form τ first'.form)) z (form_replaced_at place new' (substituted_form τ second'.form)) y.guards)) second_side))
+            (chosen_passed vars σ τ over w m e e' (option_map (substituted_out σ) second.out) (option_map (substituted_out σ) first.out) (option_map (substituted_out τ) second'.out) (option_map (substituted_out τ) first'.out) same (row_out_passed vars σ τ over w m second second' k) (row_out_passed vars σ τ over w m first first' h));
+      }
+
+  module _ (r : RowTree) (at : List ℕ) (way : Dir) (s : RowTree) (place : List ℕ) (plain_r : IsPlain table r) (plain_s : IsPlain table s) where
+    module _ (a b : ReplaceChoice table r at way s place) where
+      abbrev vars : List Var
+      vars = pair_vars a.first a.second
+
+      abbrev over : Var → Var
+      over = pair_over r s a.first a.second b.first b.second a.apart b.apart
+
+      abbrev moved : Substitution
+      moved = renaming_by over vars
+
+      moving : Moving vars over
+      moving = pair_moving r s a.first a.second b.first b.second a.apart b.apart
+
+      one_moved : IsMoved vars over a.first b.first
+      one_moved = first_moved r s a.first a.second b.first b.second a.apart b.apart
+
+      other_moved : IsMoved vars over a.second b.second
+      other_moved = second_moved r s a.first a.second b.first b.second a.apart b.apart
+
+      row_form_among : (x y : RowTree) → IsMoved vars over x y → AreAmong (form_vars x.form) vars
+      row_form_among x y h v c = h.among v (Contains-append_left (form_vars x.form) (option_map_or out_vars x.out []) v c)
+
+      abbrev equal : FormTree
+      equal = form.Equal a.left a.right
+
+      equal_among : AreAmong (form_vars equal) vars
+      equal_among = part_among vars at a.first.form equal a.there (row_form_among a.first b.first one_moved)
+
+      equal_moved : renamed_form moved equal ≡ bare_form (form.Equal b.left b.right)
+      equal_moved = form_at_both vars over at a.first.form b.first.form equal (form.Equal b.left b.right) (ap (λ (z : RowTree). z.form) one_moved.is) a.there b.there
+
+      both_moved : (bare (substituted moved a.left) ≡ bare b.left) × (bare (substituted moved a.right) ≡ bare b.right)
+      both_moved = sides_moved vars over a.left a.right b.left b.right equal_moved
+
+      chosen_moved : (bare (substituted moved (looked_for way a.left a.right)) ≡ bare (looked_for way b.left b.right)) × (bare (substituted moved (put_there way a.left a.right)) ≡ bare (put_there way b.left b.right))
+      chosen_moved = either_side (λ t u. bare (substituted moved t) ≡ bare u) way a.left a.right b.left b.right both_moved.0 both_moved.1
+
+      left_among : AreAmong (term_vars a.left) vars
+      left_among v c = sides_among vars over a.left a.right equal_among v (Contains-append_left (term_vars a.left) (flat_map term_vars (a.right ∷ [])) v c)
+
+      right_among : AreAmong (term_vars a.right) vars
+      right_among v c = sides_among vars over a.left a.right equal_among v (Contains-append_right (term_vars a.left) (flat_map term_vars (a.right ∷ [])) v (Contains-append_left (term_vars a.right) [] v c))
+
+      chosen_among : AreAmong (term_vars (looked_for way a.left a.right)) vars × AreAmong (term_vars (put_there way a.left a.right)) vars
+      chosen_among = either_side (λ t u. AreAmong (term_vars t) vars) way a.left a.right a.left a.right left_among right_among
+
+      old_among : AreAmong (term_vars a.old) vars
+      old_among = term_part_among vars place a.second.form a.old a.old_there (row_form_among a.second b.second other_moved)
+
+      old_moved : bare (substituted moved a.old) ≡ bare b.old
+      old_moved = term_at_both vars over place a.second.form b.second.form a.old b.old (ap (λ (z : RowTree). z.form) other_moved.is) a.old_there b.old_there
+
+      pair_among : AreAmong (flat_map term_vars (looked_for way a.left a.right ∷ a.old ∷ [])) vars
+      pair_among v c = go (Contains-append_cases (term_vars (looked_for way a.left a.right)) (flat_map term_vars (a.old ∷ [])) v c)
+        where
+          last : Contains (term_vars a.old) v ⊎ Contains [] v → Contains vars v
+          last (inl d) = old_among v d
+          last (inr d) = absurd (none_in_nil v d)
+
+          go : Contains (term_vars (looked_for way a.left a.right)) v ⊎ Contains (flat_map term_vars (a.old ∷ [])) v → Contains vars v
+          go (inl d) = chosen_among.0 v d
+          go (inr d) = last (Contains-append_cases (term_vars a.old) [] v d)
+
+      replace_passes : Passes vars a.unifier b.unifier over
+      replace_passes = unifiers_pass term_trees vars over moving table (pair_known table r s a.first a.second a.apart plain_r plain_s) (looked_for way a.left a.right ∷ a.old ∷ []) (looked_for way b.left b.right ∷ b.old ∷ []) pair_among
+          (ap (λ (z : TermTree). z ∷ bare (substituted moved a.old) ∷ []) chosen_moved.0 ∙ ap (λ (z : TermTree). bare (looked_for way b.left b.right) ∷ z ∷ []) old_moved)
+          a.unifier b.unifier a.general b.general
+
+      inside : All (Within (image_vars a.unifier vars)) (form_terms (substituted_form a.unifier equal))
+      inside = instance_inside vars a.unifier b.unifier over replace_passes moving equal equal_among
+
+      own : (u : Passes vars a.unifier a.unifier (λ v. v)) → Related u.renaming (replace_figure table rule r at way s place a) (replace_figure table rule r at way s place a)
+      own u = replace_related vars a.unifier a.unifier (λ v. v) u (idle vars) a.first a.first a.second a.second (row_idle vars a.first one_moved.among) (row_idle vars a.second other_moved.among) (substituted_form a.unifier equal) (substituted_form a.unifier equal) inside
+          (form_passed vars a.unifier a.unifier (λ v. v) u (idle vars) equal equal equal_among (form_idle vars equal equal_among))
+          place (substituted a.unifier (put_there way a.left a.right)) (substituted a.unifier (put_there way a.left a.right))
+          (term_passed vars a.unifier a.unifier (λ v. v) u (idle vars) (put_there way a.left a.right) (put_there way a.left a.right) chosen_among.1 (term_idle vars (put_there way a.left a.right) chosen_among.1))
+
+      -- the figures of two choices of equality replacement are alike
+      pub replace_alike : AreAlike (replace_figure table rule r at way s place a) (replace_figure table rule r at way s place b)
+      replace_alike = related_alike vars a.unifier b.unifier over replace_passes (replace_figure table rule r at way s place a) (replace_figure table rule r at way s place b)
+          (replace_related vars a.unifier b.unifier over replace_passes moving a.first b.first a.second b.second one_moved other_moved (substituted_form a.unifier equal) (substituted_form b.unifier (form.Equal b.left b.right)) inside
+          (form_passed vars a.unifier b.unifier over replace_passes moving equal (form.Equal b.left b.right) equal_among equal_moved)
+          place (substituted a.unifier (put_there way a.left a.right)) (substituted b.unifier (put_there way b.left b.right))
+          (term_passed vars a.unifier b.unifier over replace_passes moving (put_there way a.left a.right) (put_there way b.left b.right) chosen_among.1 chosen_moved.1))
+          own
+
+    -- what the rule gives comes of a choice
+    abbrev pub replace_choice : (q : RowTree) → EqualGives table rule r at way s place q → ReplaceChoice table r at way s place
+    replace_choice q g = record {
+      first = g.first;
+      second = g.second;
+      apart = g.apart;
+      left = g.left;
+      right = g.right;
+      there = g.there;
+      old = g.old;
+      old_there = g.old_there;
+      unifier = g.unifier;
+      general = g.general;
+    }
+
+    pub equal_one : (p q : RowTree) → EqualGives table rule r at way s place p → EqualGives table rule r at way s place q → bare_row p ≡ bare_row q
+    equal_one p q a b = alike_one (replace_figure table rule r at way s place (replace_choice p a)) (replace_figure table rule r at way s place (replace_choice q b)) p q (replace_alike (replace_choice p a) (replace_choice q b)) a.gives b.gives
+
+    -- what one choice gives, each choice gives
+    pub equal_any : (q : RowTree) (c : ReplaceChoice table r at way s place) → EqualGives table rule r at way s place q → Gives (replace_figure table rule r at way s place c) q
+    equal_any q c g = alike_gives (replace_figure table rule r at way s place (replace_choice q g)) (replace_figure table rule r at way s place c) q (replace_alike (replace_choice q g) c) g.gives
+
+pub replace_laws : ReplaceLaws
+replace_laws = record { equal_one = λ table rule r at way s place p q is plain_r plain_s. equal_one table rule is r at way s place plain_r plain_s p q }
