@@ -13,13 +13,13 @@ use syn_value::Value;
 
 /// A clause's body, with the values of its variables.
 #[derive(Drop)]
-pub(crate) struct Chosen<'a, B> {
-    pub(crate) body: &'a B,
-    pub(crate) values: Items<Value>,
+pub struct Chosen<'a, B> {
+    pub body: &'a B,
+    pub values: Items<Value>,
 }
 
 /// The first clause whose arguments fit the values.
-pub(crate) fn choose<'a, B>(
+pub fn choose<'a, B>(
     alloc: Global,
     symbols: &Symbols,
     rules: &[Rule<'a, B>],

@@ -15,11 +15,11 @@ use syn_term::{Kind, NoMemory, Sym, SymId, Symbols, Term};
 
 /// A symbol's kind, and its clauses or its measure among the declarations.
 #[derive(Drop)]
-pub(crate) struct Entry<'a> {
-    pub(crate) kind: Kind,
-    pub(crate) functions: Items<Rule<'a, Out>>,
-    pub(crate) relations: Items<Rule<'a, Form>>,
-    pub(crate) measure: Option<&'a Term>,
+pub struct Entry<'a> {
+    pub kind: Kind,
+    pub functions: Items<Rule<'a, Out>>,
+    pub relations: Items<Rule<'a, Form>>,
+    pub measure: Option<&'a Term>,
 }
 
 /// What is known of a function.

@@ -117,7 +117,7 @@ fn tuple(alloc: Global, args: &[Value], turns: u64) -> Result<(Value, u64), Eval
 }
 
 /// What a constructor of this kind makes of the values. Other symbols make nothing.
-pub(crate) fn construct(
+pub fn construct(
     alloc: Global,
     kind: Kind,
     args: &[Value],

@@ -15,9 +15,9 @@ use syn_term::{NoMemory, Term};
 
 /// A clause: its arguments and its body.
 #[derive(Drop)]
-pub(crate) struct Rule<'a, B> {
-    pub(crate) args: &'a [Term],
-    pub(crate) body: &'a B,
+pub struct Rule<'a, B> {
+    pub args: &'a [Term],
+    pub body: &'a B,
 }
 
 /// Whether the two texts are the same.

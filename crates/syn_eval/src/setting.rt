@@ -16,7 +16,7 @@ use syn_term::{NoMemory, SymId, Symbols};
 /// The declarations of a theory, a table that begins with its symbols, and the body of a program.
 /// Contracts see it as what gives symbols their meaning.
 #[derive(Drop)]
-pub(crate) struct Setting<'a> {
+pub struct Setting<'a> {
     alloc: Global,
     decls: &'a [Decl],
     symbols: &'a Symbols,
@@ -44,7 +44,7 @@ impl<'a> Model for Setting<'a> {
 
 impl<'a> Setting<'a> {
     /// The meaning that the theory and the body give to the symbols of the table.
-    pub(crate) fn new(
+    pub fn new(
         alloc: Global,
         theory: &'a Theory,
         symbols: &'a Symbols,
@@ -65,33 +65,33 @@ impl<'a> Setting<'a> {
         })
     }
 
-    pub(crate) fn alloc(&self) -> Global {
+    pub fn alloc(&self) -> Global {
         self.alloc
     }
 
     /// What is known of the symbol; None where it isn't in the table.
-    pub(crate) fn entry(&self, f: SymId) -> Option<&Entry<'a>>
+    pub fn entry(&self, f: SymId) -> Option<&Entry<'a>>
         ensures { option_map (λ e. entry_seen e.now) result ≡ option_map (known_of self.now.decls) (symbol_at self.now.table f) }
     {
         self.entries.get(f.0 as usize)
     }
 
     /// The table of symbols.
-    pub(crate) fn symbols(&self) -> &Symbols
+    pub fn symbols(&self) -> &Symbols
         ensures { result.now ≡ self.now.table }
     {
         self.symbols
     }
 
     /// The body of the program.
-    pub(crate) fn body(&self) -> Option<&Out>
+    pub fn body(&self) -> Option<&Out>
         ensures { option_copied result ≡ self.now.body }
     {
         self.body
     }
 
     /// The program, which stands behind the symbols of the theory.
-    pub(crate) fn program(&self) -> SymId
+    pub fn program(&self) -> SymId
         ensures { result.0 ≡ length (table_of self.now.decls).syms }
     {
         SymId(self.program)

@@ -20,7 +20,7 @@ fn value_at(values: &[Value], place: usize) -> Result<Value, NoMemory>
 }
 
 /// The value of the variable with this number, where those that are numbered from 1 have these values.
-pub(crate) fn variable_value(values: &[Value], number: u32) -> Result<Value, NoMemory>
+pub fn variable_value(values: &[Value], number: u32) -> Result<Value, NoMemory>
     ensures { IfOk result (λ v. v ≡ numbered_values values.now number) }
 {
     if number == 0 {
@@ -31,7 +31,7 @@ pub(crate) fn variable_value(values: &[Value], number: u32) -> Result<Value, NoM
 }
 
 /// The value of the input.
-pub(crate) fn input_value(set: &Setting, inputs: &[Value], f: SymId) -> Result<Value, NoMemory>
+pub fn input_value(set: &Setting, inputs: &[Value], f: SymId) -> Result<Value, NoMemory>
     ensures { IfOk result (λ v. v ≡ input_value set.now inputs.now f) }
 {
     let place = u64::from(f.0).saturating_sub(u64::from(set.program().0) + 1);

@@ -100,6 +100,30 @@ impl Bank {
         Ok(Some(Shared::new(alloc, Node::App(place, f, args))?))
     }
 
+    /// The same of arguments that are handed over: their list becomes that of the node, and isn't copied.
+    #[tactic(auto, using(crate::proofs::Banks::banks))]
+    pub fn app_owned(
+        &mut self,
+        alloc: Global,
+        syms: &Symbols,
+        f: SymId,
+        args: Items<Term>,
+    ) -> Result<Option<Term>, NoMemory>
+        requires args { All (Belongs self.old) args }
+        ensures tree { IfOk result (λ o. MatchOption o (¬ (IsApplication syms.now f args)) (λ t. IsApplication syms.now f args × (bare t ≡ application f (map bare args)))) }
+        ensures made { IfOk result (λ o. MatchOption o (self.new ≡ self.old) (λ _. self.new ≡ one_more self.old)) }
+        ensures bound { self.new.made ≤ self.old.made + 1 }
+        ensures extends { Extends self.old self.new }
+        ensures belongs { IfOk result (λ o. IfSome o (Belongs self.new)) }
+    {
+        if !may_apply(syms, f, args.as_slice()) {
+            drop(args);
+            return Ok(None);
+        }
+        let place = self.place();
+        Ok(Some(Shared::new(alloc, Node::App(place, f, args))?))
+    }
+
     /// The term with a new subterm at the position; None exactly where nothing stands there or what
     /// stands there is of another sort, and then nothing is made. What stands beside the way is kept
     /// and not made again, so no more nodes are made than the position has numbers: at the root none.

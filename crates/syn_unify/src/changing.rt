@@ -88,9 +88,7 @@ fn applied(
     ensures extends { Extends bank.old bank.new }
     ensures belongs { IfOk result (Belongs bank.new) }
 {
-    let made = bank.app(alloc, syms, f, parts.as_slice());
-    drop(parts);
-    match made {
+    match bank.app_owned(alloc, syms, f, parts) {
         Ok(Some(made)) => Ok(made),
         Ok(None) => unreachable!(),
         Err(error) => Err(error),

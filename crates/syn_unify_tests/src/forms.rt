@@ -159,7 +159,7 @@ fn form_of(alloc: Global, bank: &mut Bank, syms: &Symbols, code: &str) -> Result
 }
 
 /// The formula, where it is formed.
-fn formed(syms: &Symbols, f: Form) -> Result<Form, Fail>
+pub(crate) fn formed(syms: &Symbols, f: Form) -> Result<Form, Fail>
     ensures same { IfOk result (λ g. g ≡ f) }
     ensures formed { IfOk result (IsFormed syms.now) }
 {

@@ -2,7 +2,11 @@
 #![tactic(auto)]
 
 #[cfg(test)]
+mod applied;
+#[cfg(test)]
 mod forms;
+#[cfg(test)]
+mod limits;
 #[cfg(test)]
 mod samples;
 #[cfg(test)]

@@ -14,7 +14,7 @@ use syn_term::{Bank, Kind, Node, Sort, SymId, Symbols, Term, Var};
 
 const ZERO: SymId = SymId(0);
 
-const SUCC: SymId = SymId(1);
+pub(crate) const SUCC: SymId = SymId(1);
 
 pub(crate) const PAIR: SymId = SymId(2);
 

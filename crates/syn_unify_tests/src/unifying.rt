@@ -129,7 +129,12 @@ fn doubled(alloc: Global, bank: &mut Bank, syms: &Symbols, number: u32) -> Resul
 
 /// The list of the variables from this number down to 1.
 #[tactic(auto, using(crate::proofs::Growth::growth))]
-fn variables(alloc: Global, bank: &mut Bank, syms: &Symbols, count: u32) -> Result<Term, Fail>
+pub(crate) fn variables(
+    alloc: Global,
+    bank: &mut Bank,
+    syms: &Symbols,
+    count: u32,
+) -> Result<Term, Fail>
     ensures extends { Extends bank.old bank.new }
     ensures belongs { IfOk result (Belongs bank.new) }
 {
@@ -143,7 +148,12 @@ fn variables(alloc: Global, bank: &mut Bank, syms: &Symbols, count: u32) -> Resu
 
 /// The list of `f(x, x)` for the variables from the one before this number down to 0.
 #[tactic(auto, using(crate::proofs::Growth::growth))]
-fn doubles(alloc: Global, bank: &mut Bank, syms: &Symbols, count: u32) -> Result<Term, Fail>
+pub(crate) fn doubles(
+    alloc: Global,
+    bank: &mut Bank,
+    syms: &Symbols,
+    count: u32,
+) -> Result<Term, Fail>
     ensures extends { Extends bank.old bank.new }
     ensures belongs { IfOk result (Belongs bank.new) }
 {
