@@ -19,9 +19,10 @@ use crate::judging::load;
 use crate::status::{Status, Which};
 use sqlite_items::Items;
 use std::alloc::Global;
-use syn_eval::{EvalError, eval};
+use syn_eval::EvalError;
 use syn_files::{read_program, read_theory};
 use syn_lex::FileError;
+use syn_machine::run_program;
 use syn_model::{Param, Program, Theory};
 use syn_outside::Cabinet;
 use syn_term::{Bank, NoMemory, Sort, Symbols};
@@ -158,7 +159,7 @@ fn call(
     requires { AllFit most_turns args.now }
     ensures { MatchResult result (λ p. IsWithin (calls_at theory.now program.now args.now) most_turns (counted p)) (CallFails theory.now program.now args.now) }
 {
-    match eval(alloc, theory, program, args, MOST_TURNS) {
+    match run_program(alloc, theory, program, args, MOST_TURNS) {
         Ok(result) => Ok(result),
         Err(EvalError::TurnsSpent) => Err(Status::TurnsSpent),
         Err(EvalError::NoMemory) => Err(Status::NoMemory),

@@ -7,6 +7,7 @@ use std::process::Abort;
 use std::test::Fail;
 use syn_cases::cut;
 use syn_eval::{EvalError, eval, holds};
+use syn_machine::{run_program, run_test};
 use syn_model::{Spec, Theory};
 use syn_term::decimal_number;
 use syn_value::print_value;
@@ -62,6 +63,19 @@ f(a: L, b: L): z: nat | a = b | [1,2] [1,2] | 0 => yes
 f(a: L, b: L): z: nat | shorter(a, a, b, b) | [1] [1,2] | 9 => yes
 f(a: L, b: L): z: nat | shorter(a, a, b, b) | [1] [1,2] | 8 => spent";
 
+/// Calls that nest so deep that they are for the machine alone.
+const DEEP_CALLS: &str = "\
+t(a: nat): z: nat | if a = 0 then 0 else s(s(t(p(a)))) | 20000 | 80001 => 40000 in 80001
+t(a: nat): z: nat | if a = 0 then 0 else s(s(t(p(a)))) | 20000 | 80000 => spent
+f(a: nat): z: nat | f(a) | 3 | 60000 => spent";
+
+/// What evaluates.
+#[derive(Clone, Copy)]
+enum Evaluator {
+    Recursion,
+    Machine,
+}
+
 /// The parts of a row before its answer.
 #[derive(Clone, Copy)]
 struct Case<'a> {
@@ -86,12 +100,22 @@ fn case_of(line: &str) -> Case<'_>
 }
 
 /// The value with its turns, as the table writes it.
-fn called(alloc: Global, theory: &Theory, spec: &Spec, case: &Case<'_>) -> Result<String, Fail>
+fn called(
+    alloc: Global,
+    by: Evaluator,
+    theory: &Theory,
+    spec: &Spec,
+    case: &Case<'_>,
+) -> Result<String, Fail>
     requires { (case.now).turns ≤ 2 ^ 32 }
 {
     let args = args_of(alloc, spec, case.args)?;
     let program = program_of(alloc, theory, spec, case.text)?;
-    match eval(alloc, theory, &program, args.as_slice(), case.turns) {
+    let answer = match by {
+        Evaluator::Recursion => eval(alloc, theory, &program, args.as_slice(), case.turns),
+        Evaluator::Machine => run_program(alloc, theory, &program, args.as_slice(), case.turns),
+    };
+    match answer {
         Ok((value, turns)) => {
             let text = print_value(alloc, &value)?;
             Ok(format!(in alloc; "{} in {turns}", text.as_str())?)
@@ -102,19 +126,24 @@ fn called(alloc: Global, theory: &Theory, spec: &Spec, case: &Case<'_>) -> Resul
 }
 
 /// The truth value, as the table writes it.
-fn told(alloc: Global, theory: &Theory, spec: &Spec, case: &Case<'_>) -> Result<&'static str, Fail>
+fn told(
+    alloc: Global,
+    by: Evaluator,
+    theory: &Theory,
+    spec: &Spec,
+    case: &Case<'_>,
+) -> Result<&'static str, Fail>
     requires { (case.now).turns ≤ 2 ^ 32 }
 {
-    let args = args_of(alloc, spec, case.args)?;
-    let form = form_of(alloc, spec.symbols(), case.text)?;
-    match holds(
-        alloc,
-        theory,
-        spec.symbols(),
-        &form,
-        args.as_slice(),
-        case.turns,
-    ) {
+    let values = args_of(alloc, spec, case.args)?;
+    let args = values.as_slice();
+    let syms = spec.symbols();
+    let form = form_of(alloc, syms, case.text)?;
+    let answer = match by {
+        Evaluator::Recursion => holds(alloc, theory, syms, &form, args, case.turns),
+        Evaluator::Machine => run_test(alloc, theory, syms, &form, args, case.turns),
+    };
+    match answer {
         Ok(true) => Ok("yes"),
         Ok(false) => Ok("no"),
         Err(EvalError::TurnsSpent) => Ok("spent"),
@@ -122,30 +151,53 @@ fn told(alloc: Global, theory: &Theory, spec: &Spec, case: &Case<'_>) -> Result<
     }
 }
 
-#[test]
-fn evaluates_calls(rt: HostRuntime) -> Result<(), Fail> {
-    let alloc = rt.alloc();
+/// Each call of the table gives what its row says.
+fn check_calls(rt: &impl Abort, alloc: Global, by: Evaluator, table: &str) -> Result<(), Fail> {
     let theory = theory_of(alloc)?;
-    for line in CALLS.lines() {
+    for line in table.lines() {
         let (case, want) = cut(line, " => ");
         let case = case_of(case);
         let spec = spec_of(alloc, &theory, case.head)?;
-        let got = called(alloc, &theory, &spec, &case)?;
+        let got = called(alloc, by, &theory, &spec, &case)?;
         assert_eq!(rt; got.as_str(), want, "at {line}");
     }
     Ok(())
 }
 
-#[test]
-fn tells_truth(rt: HostRuntime) -> Result<(), Fail> {
-    let alloc = rt.alloc();
+/// Each formula of the table has the truth value that its row says.
+fn check_formulas(rt: &impl Abort, alloc: Global, by: Evaluator) -> Result<(), Fail> {
     let theory = theory_of(alloc)?;
     for line in FORMULAS.lines() {
         let (case, want) = cut(line, " => ");
         let case = case_of(case);
         let spec = spec_of(alloc, &theory, case.head)?;
-        let got = told(alloc, &theory, &spec, &case)?;
+        let got = told(alloc, by, &theory, &spec, &case)?;
         assert_eq!(rt; got, want, "at {line}");
     }
     Ok(())
+}
+
+#[test]
+fn evaluates_calls(rt: HostRuntime) -> Result<(), Fail> {
+    check_calls(&rt, rt.alloc(), Evaluator::Recursion, CALLS)
+}
+
+#[test]
+fn runs_calls(rt: HostRuntime) -> Result<(), Fail> {
+    check_calls(&rt, rt.alloc(), Evaluator::Machine, CALLS)
+}
+
+#[test]
+fn runs_deep_calls(rt: HostRuntime) -> Result<(), Fail> {
+    check_calls(&rt, rt.alloc(), Evaluator::Machine, DEEP_CALLS)
+}
+
+#[test]
+fn tells_truth(rt: HostRuntime) -> Result<(), Fail> {
+    check_formulas(&rt, rt.alloc(), Evaluator::Recursion)
+}
+
+#[test]
+fn runs_tests(rt: HostRuntime) -> Result<(), Fail> {
+    check_formulas(&rt, rt.alloc(), Evaluator::Machine)
 }

@@ -61,6 +61,12 @@ x | program w(a: nat): nat~  a~ | 3 => bad theory: line 2
 n | program f(a: nat): nat~  if a = 0 then 0 else if le(f(p(a)), f(p(a))) then 0 else 1~ | 24 => turns spent
 ";
 
+/// The same of calls that nest a million deep, and ten million.
+const DEEP_ROWS: &str = "\
+n | program t(a: nat): nat~  if a = 0 then 0 else s(s(t(p(a))))~ | 1000000 => done value 2000000, turns 4000001~
+n | program q(a: nat): nat~  q(a)~ | 1 => turns spent
+";
+
 fn theory_of(letter: &str) -> &'static str {
     match letter {
         "n" => NUMBERS,
@@ -98,6 +104,14 @@ fn assert_row<R: Abort>(rt: &R, alloc: Global, row: &str) -> Result<(), Fail> {
 #[test]
 fn evaluates_programs(rt: HostRuntime) -> Result<(), Fail> {
     for row in ROWS.lines() {
+        assert_row(&rt, rt.alloc(), row)?;
+    }
+    Ok(())
+}
+
+#[test]
+fn evaluates_deep_programs(rt: HostRuntime) -> Result<(), Fail> {
+    for row in DEEP_ROWS.lines() {
         assert_row(&rt, rt.alloc(), row)?;
     }
     Ok(())
