@@ -42,10 +42,12 @@ split_is r i u (disjunct all o k f e) = ap (λ (x : Form-F FormTree). split_laye
 split_is r i u (premise a b o) = ap (λ (x : Form-F FormTree). split_layer side.Goal o x 1) (out-Implies a b)
 split_is r i u (conclusion a b o) = ap (λ (x : Form-F FormTree). split_layer side.Goal o x 2) (out-Implies a b)
 
+-- there is one row under the line
+pub split_under : (r : RowTree) (i : ℕ) (u v : RowTree) → Splits r i u → Splits r i v → u ≡ v
+split_under r i u v a b = let e : Some u ≡ Some v = sym (split_is r i u a) ∙ split_is r i v b in cc
+
 pub split_one : (r : RowTree) (i : ℕ) (p q : RowTree) → SplitGives r i p → SplitGives r i q → bare_row p ≡ bare_row q
-split_one r i p q a b =
-    let same : a.under ≡ b.under = let e : Some a.under ≡ Some b.under = sym (split_is r i a.under a.splits) ∙ split_is r i b.under b.splits in cc in
-    figure_one (plain_figure r b.under) p q (subst (λ (z : RowTree). Gives (plain_figure r z) p) same a.gives) b.gives
+split_one r i p q a b = figure_one (plain_figure r b.under) p q (subst (λ (z : RowTree). Gives (plain_figure r z) p) (split_under r i a.under b.under a.splits b.splits) a.gives) b.gives
 
 -- what a rule gives comes of a choice
 abbrev pub reflex_choice : (table : SymbolTable) (rule : Option GuardRule) (r : RowTree) (at : List ℕ) (q : RowTree) → ReflexGives table rule r at q → ReflexChoice table r at

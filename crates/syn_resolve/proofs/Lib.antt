@@ -1,2 +1,5 @@
 pub mod Choices
 pub mod Laws
+pub mod Growth
+pub mod PartRows
+pub mod Taken

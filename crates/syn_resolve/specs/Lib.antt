@@ -1,3 +1,4 @@
 pub mod Splitting
 pub mod Resolution
 pub mod RuleLaws
+pub mod inner

@@ -1,3 +1,7 @@
-//! Rules on formulas: splitting, duality, reflexivity and nonclausal resolution, as relations between rows, with the
-//! law that each gives one row at most. No function makes their rows yet.
+//! Rules on formulas: splitting and duality; and reflexivity and nonclausal resolution as relations between rows, with the
+//! law that each gives one row at most. No function makes the rows of the last two yet.
 #![tactic(auto)]
+
+mod splitting;
+
+pub use splitting::{dual, split};

@@ -11,6 +11,7 @@ mod occurrences;
 mod plain;
 mod renumbering;
 mod rows;
+mod weighing;
 
 pub use direction::Dir;
 pub use guards::GuardRule;
@@ -18,3 +19,4 @@ pub use limits::{ROW_DEPTH, ROW_NODES, is_within};
 pub use normalizing::canonical;
 pub use plain::is_plain_row;
 pub use rows::Row;
+pub use weighing::{STEP_DEPTH, STEP_NODES, is_light};
