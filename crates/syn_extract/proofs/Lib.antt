@@ -1,0 +1,2 @@
+pub mod PrimitiveTrees
+pub mod Listed
