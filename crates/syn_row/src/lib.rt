@@ -4,6 +4,7 @@
 #![tactic(auto)]
 
 mod direction;
+mod guarding;
 mod guards;
 mod limits;
 mod normalizing;
@@ -13,6 +14,7 @@ mod renumbering;
 mod rows;
 
 pub use direction::Dir;
+pub use guarding::{call_guards, guard};
 pub use guards::GuardRule;
 pub use limits::{ROW_DEPTH, ROW_NODES, is_within};
 pub use normalizing::canonical;
