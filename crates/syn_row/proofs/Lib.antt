@@ -32,3 +32,6 @@ pub mod Passed
 pub mod Still
 pub mod Pairs
 pub mod PartsMoved
+pub mod GuardsMade
+pub mod GuardParts
+pub mod GuardsEach

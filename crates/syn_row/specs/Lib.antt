@@ -3,3 +3,4 @@ pub mod Guards
 pub mod Results
 pub mod RowLaws
 pub mod inner
+pub mod Calls

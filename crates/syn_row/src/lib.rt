@@ -4,6 +4,7 @@
 #![tactic(auto)]
 
 mod direction;
+mod guarding;
 mod guards;
 mod limits;
 mod normalizing;
@@ -14,6 +15,7 @@ mod rows;
 mod weighing;
 
 pub use direction::Dir;
+pub use guarding::{call_guards, guard};
 pub use guards::GuardRule;
 pub use limits::{ROW_DEPTH, ROW_NODES, is_within};
 pub use normalizing::canonical;
