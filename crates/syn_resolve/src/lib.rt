@@ -2,6 +2,8 @@
 //! law that each gives one row at most. No function makes the rows of the last two yet.
 #![tactic(auto)]
 
+mod equality;
 mod splitting;
 
+pub use equality::equality_at;
 pub use splitting::{dual, split};
