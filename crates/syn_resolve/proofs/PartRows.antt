@@ -1,5 +1,5 @@
 -- Rows whose formula is a part of another row's: they are plain, and what they give.
-use Rattle.std.proofs.Common.{◌≡◌, ◌↔◌, ℕ, zero, suc, ◌<◌, IsTrue, List, [], ◌∷◌, ◌++◌, Option, None, Some, IfOk, Result, Ok, Err, All, Contains, MatchOption, length, map, get_or, slice_get, refl, sym, ◌∙◌, ap, subst}
+use Rattle.std.proofs.Common.{◌≡◌, ℕ, List, [], ◌∷◌, ◌++◌, Option, None, Some, IfOk, Result, Ok, Err, All, Contains, MatchOption, slice_get, sym, ◌∙◌, ap, subst}
 use Rattle.std.specs.List.{flat_map}
 use Rattle.std.specs.Option.{option_map_or}
 use Rattle.std.proofs.lemmas.Option.{slice_get_within, get_or_from_slice_get}
@@ -10,16 +10,15 @@ use Rattle.syn_term.specs.Symbols.{SymbolTable}
 use Rattle.syn_term.specs.Terms.{TermTree}
 use Rattle.syn_form.specs.declared.trees.Form.TheViews as view
 use Rattle.syn_form.specs.declared.trees.Side.{Side}
-use Rattle.syn_form.specs.declared.trees.Side.TheVariants as side
 use Rattle.syn_form.specs.Simplification.{Junction, chain, conjunction, disjunction}
 use Rattle.syn_form.specs.Plain.{IsFormed, PlainFormNode}
-use Rattle.syn_form.specs.Trees.{FormTree, OutTree, form_terms, form_vars, out_terms, out_vars, term_vars}
+use Rattle.syn_form.specs.Trees.{FormTree, form_terms, form_vars, out_terms, out_vars, term_vars}
 use Rattle.syn_form.proofs.Equations.{form_terms-Not, form_terms-Implies}
 use Rattle.syn_form.proofs.Lists.{All-within, Contains-along, Contains-append_both, Contains-flat_map_from, flat_map_within}
-use Rattle.syn_form.proofs.Nodes.{part-Not, parts-chain, parts-Implies, every-Not}
+use Rattle.syn_form.proofs.Nodes.{parts-chain, parts-Implies, every-Not}
 use Rattle.syn_form.proofs.SimplifiedTerms.{form_terms-chain}
 use Rattle.syn_row.specs.Results.{IsLight, other_side, out_list}
-use Rattle.syn_row.specs.Rows.{IsPlain, IsWithinRow, RowTree, bare_row, canonical_row, row_terms, simplified_row}
+use Rattle.syn_row.specs.Rows.{IsPlain, IsWithinRow, RowTree, row_terms, simplified_row}
 use Rattle.syn_resolve.specs.Splitting.{DualGives, SplitGives, Splits, conclusion, conjunct, disjunct, dual_of, premise}
 use Rattle.syn_resolve.specs.inner.Answers.{Answered}
 use Rattle.syn_resolve.proofs.Laws.{split_under}

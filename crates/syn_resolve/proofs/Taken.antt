@@ -1,5 +1,5 @@
 -- What is taken of a row that splits.
-use Rattle.std.proofs.Common.{◌≡◌, ℕ, suc, List, Option, Some, slice_get, refl, sym, ◌∙◌, ap, subst}
+use Rattle.std.proofs.Common.{◌≡◌, ℕ, suc, List, Some, slice_get, sym, ◌∙◌, ap, subst}
 use Rattle.syn_form.specs.declared.trees.Form.TheViews as view
 use Rattle.syn_form.specs.declared.trees.Side.{Side}
 use Rattle.syn_form.specs.declared.trees.Side.TheVariants as side
