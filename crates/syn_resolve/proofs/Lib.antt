@@ -3,3 +3,4 @@ pub mod Laws
 pub mod Growth
 pub mod PartRows
 pub mod Taken
+pub mod Instances

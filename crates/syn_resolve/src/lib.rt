@@ -3,6 +3,7 @@
 #![tactic(auto)]
 
 mod equality;
+mod instance;
 mod splitting;
 
 pub use equality::equality_at;
