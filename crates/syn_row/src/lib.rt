@@ -4,6 +4,7 @@
 #![tactic(auto)]
 
 mod direction;
+mod giving;
 mod guarding;
 mod guards;
 mod limits;
@@ -15,6 +16,7 @@ mod rows;
 mod weighing;
 
 pub use direction::Dir;
+pub use giving::{Weighed, given};
 pub use guarding::{call_guards, guard};
 pub use guards::GuardRule;
 pub use limits::{ROW_DEPTH, ROW_NODES, is_within};
