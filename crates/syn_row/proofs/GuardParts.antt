@@ -106,7 +106,7 @@ guard_belongs b c rule ext own ts ins same belong a f h atom both condition =
     let all : All (Belongs c) (form_terms a ++ (form_terms f ++ [])) = All-append (Belongs c) (form_terms a) (form_terms f ++ []) first (All-append (Belongs c) (form_terms f) [] condition (All-nil (Belongs c))) in
     subst (All (Belongs c)) (sym (ap form_terms both ∙ form_terms-chain conjunction (a ∷ f ∷ []))) all
 
-head_of-App : (p : Place) (f : SymId) (xs : List TermTree) → head_of (node_view.App p f xs) ≡ head.Sym f
+pub head_of-App : (p : Place) (f : SymId) (xs : List TermTree) → head_of (node_view.App p f xs) ≡ head.Sym f
 head_of-App p f xs = search (rules, the_lemmas)
 
 -- a call, by its symbol and its arguments

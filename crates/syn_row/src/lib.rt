@@ -3,6 +3,7 @@
 //! all variants of a simplified row have in common.
 #![tactic(auto)]
 
+mod calls;
 mod direction;
 mod guarding;
 mod guards;
@@ -13,6 +14,7 @@ mod plain;
 mod renumbering;
 mod rows;
 
+pub use calls::{put_calls, put_form_calls};
 pub use direction::Dir;
 pub use guarding::{call_guards, guard};
 pub use guards::GuardRule;
