@@ -1,6 +1,5 @@
 use Rattle.std.proofs.Common.{◌∙◌}
 use Rattle.std.proofs.lemmas.Result.{on_ok_weaker}
-use Rattle.syn_form.specs.Trees.{FormTree}
 use Rattle.syn_row.proofs.CallsStanding.{chain_standing, put_whole_calls}
 use Rattle.syn_row.proofs.calls.+forms.Goals as goal
 
