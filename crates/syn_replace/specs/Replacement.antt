@@ -11,7 +11,7 @@ use Rattle.syn_form.specs.Trees.{FormTree}
 use Rattle.syn_row.specs.declared.direction.Dir.{Dir}
 use Rattle.syn_row.specs.declared.direction.Dir.TheVariants as dir
 use Rattle.syn_row.specs.declared.guards.GuardRule.{GuardRule}
-use Rattle.syn_row.specs.Guards.{brought, guards_of, test_calls}
+use Rattle.syn_row.specs.Guards.{joined_guards}
 use Rattle.syn_row.specs.Results.{AreApart, Figure, Gives, chosen_out, joined_form, joined_side, out_list}
 use Rattle.syn_row.specs.Rows.{RowTree}
 
@@ -32,17 +32,14 @@ put_there dir.Rl s t = s
 --     goal Fθ[false] and Gθ[tθ] and guards | if e then vθ else uθ
 --
 -- Each subformula of Fθ that is e becomes `false`; in Gθ the term at the one position becomes the other side.
-abbrev pub replace_guards : Option GuardRule → Substitution → FormTree → RowTree → RowTree → List FormTree
-replace_guards rule σ e first second = guards_of rule (λ f. brought σ (out_list first.out ++ out_list second.out) f ++ test_calls first.out second.out e f)
-
 abbrev pub replaced : Option GuardRule → Substitution → FormTree → List ℕ → TermTree → RowTree → RowTree → Figure
 replaced rule σ e place new first second = record {
   forms = substituted_form σ first.form ∷ substituted_form σ second.form ∷ [];
   outs = map (substituted_out σ) (out_list first.out ++ out_list second.out);
-  guards = replace_guards rule σ e first second;
+  guards = joined_guards rule σ e first.out second.out;
   row = record {
     side = joined_side first.side second.side;
-    form = joined_form first.side (replaced_all e false (substituted_form σ first.form)) second.side (form_replaced_at place new (substituted_form σ second.form)) (replace_guards rule σ e first second);
+    form = joined_form first.side (replaced_all e false (substituted_form σ first.form)) second.side (form_replaced_at place new (substituted_form σ second.form)) (joined_guards rule σ e first.out second.out);
     out = chosen_out e (option_map (substituted_out σ) second.out) (option_map (substituted_out σ) first.out);
   };
 }

@@ -10,7 +10,7 @@ use Rattle.syn_form.specs.Replacing.{replaced_all}
 use Rattle.syn_form.specs.Substitutions.{IsUnifierOfForms, IsUnifierOfTerms, Substitution, substituted_form, substituted_out}
 use Rattle.syn_form.specs.Trees.{FormTree, bare_form}
 use Rattle.syn_row.specs.declared.guards.GuardRule.{GuardRule}
-use Rattle.syn_row.specs.Guards.{brought, guards_of, test_calls}
+use Rattle.syn_row.specs.Guards.{brought, guards_of, joined_guards}
 use Rattle.syn_row.specs.Results.{AreApart, Figure, Gives, chosen_out, guarded, joined_form, joined_side, out_list}
 use Rattle.syn_row.specs.Rows.{RowTree}
 
@@ -57,17 +57,14 @@ pub record AreAt (positions : List (List ℕ)) (f : FormTree) (parts : List Form
 --     goal Fθ[true] and Gθ[false] and guards | if P then tθ else uθ
 --
 -- Two assertions F and G give the assertion `Fθ[true] or Gθ[false] or not guards`.
-abbrev pub resolve_guards : Option GuardRule → Substitution → FormTree → RowTree → RowTree → List FormTree
-resolve_guards rule σ p first second = guards_of rule (λ f. brought σ (out_list first.out ++ out_list second.out) f ++ test_calls first.out second.out p f)
-
 abbrev pub resolved : Option GuardRule → Substitution → FormTree → RowTree → RowTree → Figure
 resolved rule σ p first second = record {
   forms = substituted_form σ first.form ∷ substituted_form σ second.form ∷ [];
   outs = map (substituted_out σ) (out_list first.out ++ out_list second.out);
-  guards = resolve_guards rule σ p first second;
+  guards = joined_guards rule σ p first.out second.out;
   row = record {
     side = joined_side first.side second.side;
-    form = joined_form first.side (replaced_all p true (substituted_form σ first.form)) second.side (replaced_all p false (substituted_form σ second.form)) (resolve_guards rule σ p first second);
+    form = joined_form first.side (replaced_all p true (substituted_form σ first.form)) second.side (replaced_all p false (substituted_form σ second.form)) (joined_guards rule σ p first.out second.out);
     out = chosen_out p (option_map (substituted_out σ) first.out) (option_map (substituted_out σ) second.out);
   };
 }

@@ -1,15 +1,14 @@
 -- The laws of canonical rows.
-use Rattle.std.proofs.Common.{◌≡◌, ◌↔◌, List, [], ◌∷◌, ◌++◌, Option, None, Some, All, Contains, map, get_or, refl, sym, ◌∙◌, ap, subst}
-use Rattle.std.specs.Option.{option_map, option_map_or}
+use Rattle.std.proofs.Common.{◌≡◌, ◌↔◌, List, [], All, Contains, map, get_or, refl, sym, ◌∙◌, ap}
+use Rattle.std.specs.Option.{option_map_or}
 use Rattle.syn_term.specs.declared.sorts.Var.{Var}
-use Rattle.syn_term.specs.Symbols.{SymbolTable}
 use Rattle.syn_term.specs.Terms.{TermTree, bare, variable_tree}
 use Rattle.syn_term.specs.Same.{same_tree}
 use Rattle.syn_form.specs.Same.{same_form, same_out}
 use Rattle.syn_form.specs.Simplification.{simplified_form, simplified_out}
 use Rattle.syn_form.specs.Substitutions.{Substitution, image, substituted, substituted_form, substituted_out}
 use Rattle.syn_form.specs.Trees.{FormTree, OutTree, bare_form, bare_out, form_terms, out_terms}
-use Rattle.syn_form.proofs.Owned.{All-left, All-right}
+use Rattle.syn_form.proofs.Owned.{All-left}
 use Rattle.syn_form.proofs.SimplifiedTwice.{simplified_form-twice, simplified_out-twice}
 use Rattle.syn_row.specs.Rows.{AreVariants, IsRenaming, IsSimplified, RowTree, bare_row, canonical_row, first_occurrences, numbered_from, numbering, renumbered_row, row_terms, row_vars, simplified_row, substituted_row}
 use Rattle.syn_row.proofs.Changes.{changes_bare, changes_none, changes_substituted, out_changes_bare, out_changes_none, out_changes_substituted}
@@ -17,7 +16,7 @@ use Rattle.syn_row.proofs.Commuting.{simplified_changed, simplified_out_changed}
 use Rattle.syn_row.proofs.Numbers.{bare-variable, image_numbered, numbered, one_number, sort_numbered}
 use Rattle.syn_row.proofs.Occurring.{numbered_renamed, occurrences_renamed, occurs, occurs_first}
 use Rattle.syn_row.proofs.Renaming.{Within, back_by, substituted-blind, substituted_after, substituted_back}
-use Rattle.syn_row.proofs.RowChanges.{changed_row, own_out, row_within, rows_after, rows_both, rows_same, rows_substituted}
+use Rattle.syn_row.proofs.RowChanges.{own_out, row_within, rows_after, rows_both, rows_same, rows_substituted}
 use Rattle.syn_row.proofs.Telling.{bare-twice, forms_told, outs_told, trees_told}
 use Rattle.syn_row.proofs.Variants.{substituted-along, variant_vars, variants-one, variants_along, variants_back}
 

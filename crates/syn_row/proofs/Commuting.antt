@@ -10,12 +10,11 @@ use Rattle.syn_form.specs.declared.trees.Form.{out-Form}
 use Rattle.syn_form.specs.declared.trees.Form.TheOpen.{Form-F}
 use Rattle.syn_form.specs.declared.trees.Form.TheVariants as form
 use Rattle.syn_form.specs.declared.trees.Form.TheViews as view
-use Rattle.syn_form.specs.declared.trees.Out.TheVariants as out
 use Rattle.syn_form.specs.declared.trees.Out.TheViews as out_view
 use Rattle.syn_form.specs.Same.{same_form, same_out}
 use Rattle.syn_form.specs.Simplification.{Junction, conjunction, disjunction, chain, neutral, deciding, opened, opened_layer, has_form, has_both, without_repeats, members_left, chain_of, joined, negated, negated_layer, implied, implied_layer, implied_open, equated, chosen, chosen_layer, chosen_open, simplified_form, simplified_form_step, simplified_out, simplified_out_step}
 use Rattle.syn_form.specs.Trees.{FormTree, OutTree, form_terms, out_terms}
-use Rattle.syn_form.proofs.Equations.{fold-True, fold-False, fold-Atom, fold-Equal, fold-Not, fold-Implies, fold-Give, fold-If, form_terms-True, form_terms-False, form_terms-Atom, form_terms-Equal, form_terms-Not, form_terms-Implies, out_terms-Give, out_terms-If, out-True, out-False, out-Atom, out-Equal, out-Not, out-And, out-Or, out-Implies}
+use Rattle.syn_form.proofs.Equations.{fold-True, fold-False, fold-Atom, fold-Equal, fold-Not, fold-Implies, fold-Give, fold-If, form_terms-True, form_terms-False, form_terms-Equal, form_terms-Not, form_terms-Implies, out_terms-If, out-True, out-False, out-Atom, out-Equal, out-Not, out-And, out-Or, out-Implies}
 use Rattle.syn_form.proofs.Inductions.{by_form_cases, by_out_cases}
 use Rattle.syn_form.proofs.Lists.{All-within, All-flat_map, Contains-filter}
 use Rattle.syn_form.proofs.Owned.{All-left, All-right}

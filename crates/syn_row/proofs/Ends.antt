@@ -1,5 +1,5 @@
 -- The ends of the code that renumbers and simplifies a row.
-use Rattle.std.proofs.Common.{◌≡◌, ◌↔◌, ℕ, ◌+◌, ◌≤◌, Bool, IsTrue, List, [], ◌∷◌, ◌++◌, Option, None, Some, All, Contains, IfSome, map, get_or, refl, sym, ◌∙◌, ap, subst, arith}
+use Rattle.std.proofs.Common.{◌≡◌, ◌↔◌, ℕ, ◌+◌, ◌≤◌, Bool, IsTrue, List, [], Option, None, Some, All, Contains, get_or, refl, sym, ◌∙◌, ap, subst, arith}
 use Rattle.std.specs.Option.{option_map, option_map_or}
 use Rattle.std.proofs.lemmas.List.Elements.{All-contains, Contains-get_or}
 use Rattle.syn_term.specs.Bank.{Kept, Belongs, Extends, Extends-refl, Extends-trans}
@@ -10,8 +10,8 @@ use Rattle.syn_form.specs.Inputs.{on_terms, terms_size}
 use Rattle.syn_form.specs.Plain.{HasOneSortEach, IsFormed}
 use Rattle.syn_form.specs.Same.{OfOneBank, OfOneBank-from}
 use Rattle.syn_form.specs.Simplification.{simplified_form, simplified_out}
-use Rattle.syn_form.specs.Substitutions.{substituted, substituted_form, substituted_out}
-use Rattle.syn_form.specs.Trees.{FormTree, OutTree, bare_form, bare_out, form_terms, form_nodes, out_nodes, out_terms}
+use Rattle.syn_form.specs.Substitutions.{substituted_form, substituted_out}
+use Rattle.syn_form.specs.Trees.{FormTree, OutTree, bare_form, bare_out, form_terms, out_nodes, out_terms}
 use Rattle.syn_form.proofs.Lists.{All-within}
 use Rattle.syn_form.proofs.SimplifiedTerms.{Among-append, simplified_form-terms, simplified_out-terms}
 use Rattle.syn_row.specs.Rows.{IsPlain, IsSimplified, IsWithinRow, RowTree, bare_row, canonical_row, first_occurrences, numbered_from, renumbered_row, row_nodes, row_terms, row_vars, simplified_row, substituted_row}

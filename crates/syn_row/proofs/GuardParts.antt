@@ -3,7 +3,7 @@ use Rattle.std.proofs.Common.{◌≡◌, ◌≤◌, ◌⊎◌, inl, inr, List, [
 use Rattle.std.specs.List.{flat_map}
 use Rattle.std.proofs.lemmas.Grind.{flat_map-append}
 use Rattle.std.proofs.lemmas.List.{map-append}
-use Rattle.std.proofs.lemmas.List.Elements.{All-append, All-cons, All-head, All-map, All-nil, All-tail, Contains-append_cases}
+use Rattle.std.proofs.lemmas.List.Elements.{All-append, All-cons, All-head, All-nil, All-tail, Contains-append_cases}
 use Rattle.syn_term.specs.Bank.{Belongs, Belongs-extends, Extends, Kept}
 use Rattle.syn_term.specs.declared.sorts.Head.TheVariants as head
 use Rattle.syn_term.specs.declared.sorts.Sym.{Sym}
@@ -106,7 +106,7 @@ guard_belongs b c rule ext own ts ins same belong a f h atom both condition =
     let all : All (Belongs c) (form_terms a ++ (form_terms f ++ [])) = All-append (Belongs c) (form_terms a) (form_terms f ++ []) first (All-append (Belongs c) (form_terms f) [] condition (All-nil (Belongs c))) in
     subst (All (Belongs c)) (sym (ap form_terms both ∙ form_terms-chain conjunction (a ∷ f ∷ []))) all
 
-head_of-App : (p : Place) (f : SymId) (xs : List TermTree) → head_of (node_view.App p f xs) ≡ head.Sym f
+pub head_of-App : (p : Place) (f : SymId) (xs : List TermTree) → head_of (node_view.App p f xs) ≡ head.Sym f
 head_of-App p f xs = search (rules, the_lemmas)
 
 -- a call, by its symbol and its arguments

@@ -35,3 +35,4 @@ pub mod PartsMoved
 pub mod GuardsMade
 pub mod GuardParts
 pub mod GuardsEach
+pub mod CallsStanding

@@ -1,6 +1,6 @@
 -- Variables noted one after another: from the parts of a tree, and that what is noted is each variable once, in order.
 use Rattle.std.proofs.Common.{◌≡◌, ℕ, ◌+◌, ◌<◌, Bool, true, false, not, ◌||◌, ◌&&◌, cond, List, [], ◌∷◌, ◌++◌, filter, length, take, get_or, refl, sym, ◌∙◌, ap, append_assoc, append-nil, subst, Contains}
-use Rattle.std.specs.List.{flat_map, list_any}
+use Rattle.std.specs.List.{flat_map}
 use Rattle.std.proofs.lemmas.List.{take_more}
 use Rattle.std.proofs.lemmas.List.Concat.{flat_map-append}
 use Rattle.syn_term.specs.declared.sorts.Var.{Var}

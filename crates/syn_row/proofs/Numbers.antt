@@ -1,16 +1,15 @@
 -- The numbers that variables get: each is a variable, of its own sort, and where the variable stands among those that are numbered.
-use Rattle.std.proofs.Common.{◌≡◌, ◌↔◌, ◌⊎◌, inl, inr, ℕ, zero, suc, ◌+◌, ◌<◌, ◌≤◌, Bool, true, false, cond, List, [], ◌∷◌, Contains, length, drop, get_or, map, refl, sym, ◌∙◌, ap, subst, arith, rules}
+use Rattle.std.proofs.Common.{◌≡◌, ◌⊎◌, inl, inr, ℕ, ◌+◌, ◌<◌, ◌≤◌, Bool, true, false, cond, List, [], ◌∷◌, Contains, length, drop, get_or, refl, sym, ◌∙◌, ap, arith, rules}
 use Rattle.std.proofs.lemmas.List.{drop_all, drop_more}
-use Rattle.syn_term.specs.declared.sorts.Sort.{Sort}
 use Rattle.syn_term.specs.declared.sorts.Var.{Var}
 use Rattle.syn_term.specs.declared.term.Place.{Place}
 use Rattle.syn_term.specs.declared.term.Node.{out-Node}
 use Rattle.syn_term.specs.declared.term.Node.TheOpen.{Node-F}
 use Rattle.syn_term.specs.declared.term.Node.TheVariants as node
 use Rattle.syn_term.specs.declared.term.Node.TheViews.{the_lemmas}
-use Rattle.syn_term.specs.Terms.{TermTree, bare, bare_step, nowhere, variable_tree}
+use Rattle.syn_term.specs.Terms.{bare, bare_step, nowhere, variable_tree}
 use Rattle.syn_term.proofs.Trees.{fold-Var}
-use Rattle.syn_form.specs.Substitutions.{Substitution, image, same_var, substituted, substituted_step}
+use Rattle.syn_form.specs.Substitutions.{image, same_var}
 use Rattle.syn_form.proofs.Lists.{Contains-cons_cases, none_in_nil}
 use Rattle.syn_row.specs.Rows.{numbered_from}
 use Rattle.syn_row.proofs.SameVars.{same_var_to, same_var_from, the_var}

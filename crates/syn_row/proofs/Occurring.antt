@@ -1,6 +1,5 @@
 -- First occurrences: which variables they are, and those of renamed variables.
 use Rattle.std.proofs.Common.{◌≡◌, ◌⊎◌, inl, inr, ℕ, ◌+◌, ◌≤◌, Bool, true, false, not, cond, List, [], ◌∷◌, Contains, filter, map, length, refl, sym, ◌∙◌, ap, subst, arith}
-use Rattle.std.specs.List.{flat_map}
 use Rattle.syn_term.specs.declared.sorts.Var.{Var}
 use Rattle.syn_form.specs.Substitutions.{same_var}
 use Rattle.syn_form.proofs.Lists.{Contains-cons_cases, Contains-filter, Contains-head, Contains-tail, none_in_nil}

@@ -1,5 +1,5 @@
 -- The arguments of a term of a bank belong to it.
-use Rattle.std.proofs.Common.{◌≡◌, ℕ, suc, List, All, get_or, sym, ◌∙◌, ap, subst}
+use Rattle.std.proofs.Common.{◌≡◌, suc, List, All, get_or, sym, ◌∙◌, ap, subst}
 use Rattle.std.proofs.lemmas.Option.{slice_get-get_or}
 use Rattle.std.proofs.lemmas.List.Elements.{All-from_get_or}
 use Rattle.syn_term.specs.Bank.{Kept, Belongs, Belongs-child}

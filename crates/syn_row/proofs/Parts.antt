@@ -1,10 +1,7 @@
 -- What holds of all terms of a tree holds of all terms of its parts.
 use Rattle.std.proofs.Common.{◌≡◌, ℕ, ◌<◌, List, [], ◌∷◌, ◌++◌, All, length, get_or, sym, ◌∙◌, ap, subst}
-use Rattle.std.specs.List.{flat_map}
 use Rattle.std.proofs.lemmas.List.Elements.{All-append}
 use Rattle.syn_term.specs.declared.sorts.SymId.{SymId}
-use Rattle.syn_term.specs.declared.term.Place.{Place}
-use Rattle.syn_term.specs.declared.term.Node.TheViews as node_view
 use Rattle.syn_term.specs.Terms.{TermTree}
 use Rattle.syn_form.specs.declared.trees.Form.TheVariants as form
 use Rattle.syn_form.specs.declared.trees.Form.TheViews as view

@@ -3,7 +3,6 @@ use Rattle.std.proofs.Common.{◌≡◌, ◌⊎◌, inl, inr, Bool, true, false,
 use Rattle.std.specs.List.{flat_map}
 use Rattle.std.proofs.lemmas.List.{map-append}
 use Rattle.std.proofs.lemmas.List.Elements.{All-head, All-tail, Contains-get_or}
-use Rattle.syn_term.specs.declared.sorts.Sort.{Sort}
 use Rattle.syn_term.specs.declared.sorts.SymId.{SymId}
 use Rattle.syn_term.specs.declared.sorts.Var.{Var}
 use Rattle.syn_term.specs.declared.term.Place.{Place}
@@ -11,16 +10,16 @@ use Rattle.syn_term.specs.declared.term.Node.TheVariants as node
 use Rattle.syn_term.specs.declared.term.Node.TheViews as view
 use Rattle.syn_term.specs.Terms.{TermTree, application, bare, bare_step, nowhere, variable_tree}
 use Rattle.syn_term.proofs.Trees.{fold-App, fold-Var, fold-bare}
-use Rattle.syn_form.specs.Substitutions.{Binding, Substitution, image, same_var, substituted, substituted_step}
+use Rattle.syn_form.specs.Substitutions.{Substitution, image, same_var, substituted, substituted_step}
 use Rattle.syn_form.specs.Trees.{term_vars, term_vars_step}
 use Rattle.syn_form.proofs.Lists.{Contains-cons_cases, Contains-flat_map_from, Contains-head, Contains-tail, all_of-map, none_in_nil}
 use Rattle.syn_form.proofs.BareVars.{term_vars_bare}
 use Rattle.syn_form.proofs.TermNodes.{by_term_cases}
 use Rattle.syn_row.specs.Rows.{IsRenaming}
 use Rattle.syn_row.proofs.Changes.{map_after, map_same}
-use Rattle.syn_row.proofs.Numbers.{bare-variable, variable-injective}
-use Rattle.syn_row.proofs.SameVars.{same_var_to, same_var_from, same_var_not}
-use Rattle.syn_row.proofs.Telling.{Blind, bare-twice}
+use Rattle.syn_row.proofs.Numbers.{bare-variable}
+use Rattle.syn_row.proofs.SameVars.{same_var_to, same_var_not}
+use Rattle.syn_row.proofs.Telling.{Blind}
 
 pub substituted-Var : (σ : Substitution) (p : Place) (v : Var) → substituted σ (node.Var p v) ≡ image σ v
 substituted-Var σ p v = fold-Var (substituted_step σ) p v

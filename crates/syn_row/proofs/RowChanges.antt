@@ -4,13 +4,10 @@ use Rattle.std.specs.List.{flat_map}
 use Rattle.std.specs.Option.{option_map, option_map_or}
 use Rattle.std.proofs.lemmas.List.{map-append}
 use Rattle.std.proofs.lemmas.List.Concat.{flat_map-append}
-use Rattle.std.proofs.lemmas.List.Elements.{Contains-append_left, Contains-append_right, All-head, All-tail, Contains-get_or}
+use Rattle.std.proofs.lemmas.List.Elements.{All-head, All-tail, Contains-get_or}
 use Rattle.syn_term.specs.declared.sorts.Var.{Var}
 use Rattle.syn_term.specs.Terms.{TermTree, bare}
 use Rattle.syn_form.specs.declared.trees.Side.{Side}
-use Rattle.syn_form.specs.declared.trees.Form.TheVariants as form
-use Rattle.syn_form.specs.declared.trees.Out.TheVariants as out
-use Rattle.syn_form.specs.declared.trees.Out.TheViews as out_view
 use Rattle.syn_form.specs.Inputs.{on_terms}
 use Rattle.syn_form.specs.Substitutions.{Substitution, substituted, substituted_form, substituted_out}
 use Rattle.syn_form.specs.Trees.{FormTree, OutTree, bare_form, bare_out, form_terms, form_vars, out_terms, out_vars, term_vars}
@@ -21,8 +18,7 @@ use Rattle.syn_form.proofs.Lists.{Contains-flat_map_from}
 use Rattle.syn_form.proofs.Owned.{All-left, All-right}
 use Rattle.syn_form.proofs.PutInputs.{on_terms-terms}
 use Rattle.syn_row.specs.Rows.{IsRenaming, RowTree, bare_row, row_terms, row_vars, substituted_row}
-use Rattle.syn_row.specs.inner.Renumbering.{out_on_terms}
-use Rattle.syn_row.proofs.Changes.{Changes, OutChanges, changes_after, changes_alike, changes_bare, changes_on, changes_same, changes_substituted, out_changes_after, out_changes_alike, out_changes_bare, out_changes_on, out_changes_same, out_changes_substituted}
+use Rattle.syn_row.proofs.Changes.{Changes, OutChanges, changes_after, changes_alike, changes_bare, changes_on, changes_same, changes_substituted, out_changes_after, out_changes_bare, out_changes_same, out_changes_substituted}
 use Rattle.syn_row.proofs.Renaming.{Within, vars_renamed}
 use Rattle.syn_row.proofs.Telling.{Blind, form-along, out-along}
 

@@ -1,40 +1,32 @@
 -- A row renumbered is plain where the row is, and has as many nodes and is as deep; so is a row that is one with it.
-use Rattle.std.proofs.Common.{◌≡◌, ◌↔◌, ℕ, ◌+◌, ◌≤◌, max, List, [], ◌∷◌, ◌++◌, Option, None, Some, All, Contains, IfSome, map, sum, get_or, length, refl, sym, ◌∙◌, ap, subst, arith}
-use Rattle.std.specs.Option.{option_map, option_map_or}
-use Rattle.std.proofs.lemmas.List.{length-map}
+use Rattle.std.proofs.Common.{◌≡◌, List, Option, None, Some, IfSome, map, refl, sym, ◌∙◌, ap, subst}
+use Rattle.std.specs.Option.{option_map}
 use Rattle.std.proofs.lemmas.List.Elements.{All-map}
-use Rattle.syn_term.specs.declared.sorts.SymId.{SymId}
 use Rattle.syn_term.specs.declared.sorts.Var.{Var}
-use Rattle.syn_term.specs.declared.term.Node.TheVariants as node
 use Rattle.syn_term.specs.Symbols.{IsSort, SymbolTable}
-use Rattle.syn_term.specs.Terms.{TermTree, IsApplication, bare, nodes, nodes_step, depth_of, depth_step, greatest, nowhere, sort_of}
-use Rattle.syn_term.proofs.Trees.{fold-App, fold-Var, fold-bare}
-use Rattle.syn_form.specs.declared.trees.Form.TheVariants as form
-use Rattle.syn_form.specs.declared.trees.Form.TheViews as view
+use Rattle.syn_term.specs.Terms.{TermTree, IsApplication, nowhere}
 use Rattle.syn_form.specs.declared.trees.Out.TheVariants as out
-use Rattle.syn_form.specs.declared.trees.Out.TheViews as out_view
 use Rattle.syn_form.specs.Inputs.{on_terms}
-use Rattle.syn_form.specs.Plain.{HasOneSortEach, IsFormed, IsFormedOut, IsPlainRow, IsSorted, PlainOutNode, SortedNode, given_sort, given_sort_step}
-use Rattle.syn_form.specs.Simplification.{Junction, conjunction, disjunction, chain, simplified_form, simplified_out}
-use Rattle.syn_form.specs.Substitutions.{substituted, substituted_form, substituted_out}
-use Rattle.syn_form.specs.Trees.{FormTree, OutTree, bare_form, bare_out, form_nodes, form_depth, out_nodes, out_depth}
+use Rattle.syn_form.specs.Plain.{HasOneSortEach, IsFormed, IsFormedOut, IsSorted, PlainOutNode, SortedNode, given_sort, given_sort_step}
+use Rattle.syn_form.specs.Substitutions.{substituted_form, substituted_out}
+use Rattle.syn_form.specs.Trees.{FormTree, OutTree, bare_out}
 use Rattle.syn_form.proofs.BareFacts.{formed_bare, formed_out_bare}
-use Rattle.syn_form.proofs.Equations.{fold-Give, fold-If, form_nodes-True, form_nodes-False, form_nodes-Atom, form_nodes-Equal, form_nodes-Not, form_nodes-And, form_nodes-Or, form_nodes-Implies, form_depth-Atom, form_depth-Equal, form_depth-Not, form_depth-And, form_depth-Or, form_depth-Implies, out_nodes-Give, out_nodes-If, out_depth-Give, out_depth-If}
-use Rattle.syn_form.proofs.Inductions.{by_form_cases, by_out_cases}
+use Rattle.syn_form.proofs.Equations.{fold-Give, fold-If}
+use Rattle.syn_form.proofs.Inductions.{by_out_cases}
 use Rattle.syn_form.proofs.Nodes.{every-Give, every-If, node-If, parts-If}
 use Rattle.syn_form.proofs.FormedForms.{term_formed}
 use Rattle.syn_form.proofs.PutInputs.{on_terms-formed}
 use Rattle.syn_form.proofs.SimplifiedPlain.{simplified_row-plain}
 use Rattle.syn_form.proofs.TermNodes.{by_term_cases, node-App, node-Var, parts-App, every-App, every-Var}
-use Rattle.syn_row.specs.Rows.{IsPlain, IsWithinRow, RowTree, bare_row, canonical_row, first_occurrences, numbered_from, numbering, renumbered_row, row_depth, row_nodes, row_vars, simplified_row}
+use Rattle.syn_row.specs.Rows.{IsPlain, RowTree, bare_row, canonical_row, first_occurrences, numbered_from, numbering, renumbered_row, row_vars, simplified_row}
 use Rattle.syn_row.specs.inner.Renumbering.{renumbered}
 use Rattle.syn_row.proofs.CanonicalRows.{numbering_renames}
-use Rattle.syn_row.proofs.Changes.{Changes, OutChanges, changes_alike, changes_bare, changes_on, changes_substituted, map_after, map_same, out_changes_bare, out_changes_substituted}
+use Rattle.syn_row.proofs.Changes.{changes_alike, changes_on, changes_substituted, out_changes_substituted}
 use Rattle.syn_row.proofs.Keeping.{renumbered-App, renumbered-Var, sort_renumbered, sorts_renumbered}
 use Rattle.syn_row.proofs.Numbers.{numbered, one_number, sort_numbered}
 use Rattle.syn_row.proofs.Occurring.{occurs_first}
 use Rattle.syn_row.proofs.Renaming.{comes_from, comes_from_one}
-use Rattle.syn_row.proofs.RowChanges.{changed_row, row_vars-along, row_vars-renamed}
+use Rattle.syn_row.proofs.RowChanges.{row_vars-along, row_vars-renamed}
 
 module _ (table : SymbolTable) (vars : List Var) where
   -- a term renumbered is sorted

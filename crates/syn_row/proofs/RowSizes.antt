@@ -1,24 +1,19 @@
 -- A change that keeps the nodes and the depth of each term keeps those of a row.
-use Rattle.std.proofs.Common.{◌≡◌, ℕ, ◌+◌, ◌≤◌, ◌<◌, ◌^◌, max, List, [], ◌∷◌, ◌++◌, Option, None, Some, All, map, sum, get_or, length, length-append, refl, sym, ◌∙◌, ap, subst, arith}
+use Rattle.std.proofs.Common.{◌≡◌, ℕ, ◌+◌, ◌≤◌, ◌<◌, ◌^◌, max, List, [], ◌∷◌, Option, None, Some, All, map, sum, get_or, length, length-append, refl, sym, ◌∙◌, ap, arith}
 use Rattle.std.specs.Option.{option_map, option_map_or}
 use Rattle.std.proofs.lemmas.List.Elements.{All-head, All-tail}
 use Rattle.syn_term.specs.declared.sorts.Var.{Var}
-use Rattle.syn_term.specs.declared.term.Node.TheVariants as node
-use Rattle.syn_term.specs.Terms.{TermTree, bare, nodes, nodes_step, depth_of, depth_step, greatest, nowhere, variable_tree}
+use Rattle.syn_term.specs.Terms.{TermTree, bare, nodes, nodes_step, depth_of, depth_step, greatest, nowhere}
 use Rattle.syn_term.proofs.Trees.{fold-App, fold-Var, fold-bare}
-use Rattle.syn_form.specs.declared.trees.Form.TheVariants as form
-use Rattle.syn_form.specs.declared.trees.Form.TheViews as view
-use Rattle.syn_form.specs.declared.trees.Out.TheVariants as out
-use Rattle.syn_form.specs.declared.trees.Out.TheViews as out_view
 use Rattle.syn_form.specs.Simplification.{Junction, conjunction, disjunction, chain}
 use Rattle.syn_form.specs.Substitutions.{substituted, substituted_form, substituted_out}
-use Rattle.syn_form.specs.Trees.{FormTree, OutTree, bare_form, bare_out, form_nodes, form_nodes_step, form_depth, form_depth_step, form_vars, out_nodes, out_depth, out_vars}
+use Rattle.syn_form.specs.Trees.{FormTree, OutTree, bare_form, bare_out, form_nodes, form_depth, form_vars, out_nodes, out_depth, out_vars}
 use Rattle.syn_form.proofs.Equations.{form_nodes-Atom, form_nodes-Equal, form_nodes-Not, form_nodes-And, form_nodes-Or, form_nodes-Implies, form_depth-Atom, form_depth-Equal, form_depth-Not, form_depth-And, form_depth-Or, form_depth-Implies, out_nodes-Give, out_nodes-If, out_depth-Give, out_depth-If}
 use Rattle.syn_form.proofs.Inductions.{by_form_cases, by_out_cases}
 use Rattle.syn_form.proofs.TermNodes.{by_term_cases}
 use Rattle.syn_row.specs.Rows.{IsWithinRow, RowTree, bare_row, first_occurrences, numbered_from, renumbered_row, row_depth, row_nodes, row_vars}
 use Rattle.syn_row.specs.inner.Renumbering.{renumbered}
-use Rattle.syn_row.proofs.Changes.{Changes, OutChanges, changes_bare, changes_substituted, map_after, map_same, out_changes_bare, out_changes_substituted}
+use Rattle.syn_row.proofs.Changes.{Changes, OutChanges, changes_bare, changes_substituted, out_changes_bare, out_changes_substituted}
 use Rattle.syn_row.proofs.Keeping.{renumbered-App, renumbered-Var}
 use Rattle.syn_row.proofs.Numbers.{numbered}
 use Rattle.syn_row.proofs.Occurring.{few_occurrences}

@@ -1,12 +1,12 @@
 -- The test for one variable means what it says.
-use Rattle.std.proofs.Common.{◌≡◌, ◌⊎◌, ◌↔◌, ℕ, inl, inr, Bool, true, false, ◌||◌, ◌&&◌, nat_eq, List, [], ◌∷◌, Contains, refl, sym, ◌∙◌, ap, arith, true≢false}
+use Rattle.std.proofs.Common.{◌≡◌, ◌⊎◌, ◌↔◌, ℕ, inl, inr, Bool, true, false, ◌||◌, nat_eq, List, [], ◌∷◌, Contains, refl, sym, ◌∙◌, ap, arith, true≢false}
 use Rattle.std.proofs.lemmas.Bool.Decides.{nat_tests}
 use Rattle.syn_term.specs.declared.sorts.Sort.{Sort}
 use Rattle.syn_term.specs.declared.sorts.Sort.TheVariants as sort
 use Rattle.syn_term.specs.declared.sorts.Var.{Var}
 use Rattle.syn_form.specs.Sorts.{same_sort}
 use Rattle.syn_form.specs.Substitutions.{same_var}
-use Rattle.syn_form.proofs.Lists.{Contains-cons_cases, Contains-head, Contains-tail, none_in_nil}
+use Rattle.syn_form.proofs.Lists.{Contains-cons_cases, Contains-tail, none_in_nil}
 use Rattle.syn_form.proofs.Sorting.{both_true, and_true}
 use Rattle.syn_row.specs.inner.Noting.{has_var}
 

@@ -1,7 +1,7 @@
 -- The terms of a formula have no more nodes than the formula, and a tree no more variables than nodes.
-use Rattle.std.proofs.Common.{◌≡◌, ℕ, ◌+◌, ◌*◌, ◌<◌, ◌≤◌, List, [], ◌∷◌, ◌++◌, All, map, sum, length, length-append, get_or, refl, sym, ◌∙◌, ap, arith}
+use Rattle.std.proofs.Common.{◌≡◌, ℕ, ◌+◌, ◌*◌, ◌<◌, ◌≤◌, List, [], ◌∷◌, ◌++◌, All, map, sum, length, length-append, get_or, refl, ◌∙◌, ap, arith}
 use Rattle.std.specs.List.{flat_map}
-use Rattle.std.proofs.lemmas.List.Sums.{sum-map, sum_by-append, sum_by-cons}
+use Rattle.std.proofs.lemmas.List.Sums.{sum-map, sum_by-cons}
 use Rattle.std.proofs.lemmas.List.Elements.{All-head, All-tail}
 use Rattle.syn_term.specs.declared.term.Node.TheVariants as node
 use Rattle.syn_term.specs.declared.term.Node.TheViews as node_view
@@ -13,8 +13,8 @@ use Rattle.syn_form.specs.declared.trees.Out.TheVariants as out
 use Rattle.syn_form.specs.declared.trees.Out.TheViews as out_view
 use Rattle.syn_form.specs.Inputs.{terms_size}
 use Rattle.syn_form.specs.Simplification.{Junction, conjunction, disjunction, chain}
-use Rattle.syn_form.specs.Trees.{FormTree, OutTree, all_of, form_nodes, form_nodes_step, form_terms, form_vars, out_nodes, out_terms, out_vars, term_vars, term_vars_step}
-use Rattle.syn_form.proofs.Equations.{form_nodes-True, form_nodes-False, form_nodes-Atom, form_nodes-Equal, form_nodes-Not, form_nodes-And, form_nodes-Or, form_nodes-Implies, form_terms-True, form_terms-False, out_nodes-Give, out_nodes-If, out_terms-Give}
+use Rattle.syn_form.specs.Trees.{FormTree, OutTree, form_nodes, form_terms, form_vars, out_nodes, out_vars, term_vars, term_vars_step}
+use Rattle.syn_form.proofs.Equations.{form_nodes-Atom, form_nodes-Equal, form_nodes-Not, form_nodes-And, form_nodes-Or, form_nodes-Implies, form_terms-True, form_terms-False, out_nodes-Give, out_nodes-If, out_terms-Give}
 use Rattle.syn_form.proofs.Inductions.{by_form_cases, by_out_cases}
 use Rattle.syn_form.proofs.Lists.{all_of-map}
 use Rattle.syn_form.proofs.OnTerms.{size-Atom, size-Equal, size-Not, size-chain, size-Implies}

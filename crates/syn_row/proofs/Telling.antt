@@ -1,6 +1,5 @@
 -- A change of terms that another one takes back keeps equal trees equal and other trees apart.
-use Rattle.std.proofs.Common.{◌≡◌, Bool, true, false, List, [], ◌∷◌, ◌++◌, All, get_or, refl, sym, ◌∙◌, ap, true≢false}
-use Rattle.std.proofs.lemmas.List.Elements.{All-nil}
+use Rattle.std.proofs.Common.{◌≡◌, Bool, true, false, All, get_or, refl, sym, ◌∙◌, ap}
 use Rattle.syn_term.specs.Terms.{TermTree, bare, bare_step}
 use Rattle.syn_term.specs.Same.{same_tree}
 use Rattle.syn_term.proofs.Same.{same_tree-to, same_tree-from}

@@ -1,15 +1,15 @@
 -- To be variants is an equivalence, and rows that are one are variants.
-use Rattle.std.proofs.Common.{◌≡◌, List, [], ◌∷◌, All, Contains, map, get_or, refl, sym, ◌∙◌, ap, subst}
+use Rattle.std.proofs.Common.{◌≡◌, List, [], map, get_or, refl, sym, ◌∙◌, subst}
 use Rattle.syn_term.specs.declared.sorts.Var.{Var}
-use Rattle.syn_term.specs.Terms.{TermTree, bare}
+use Rattle.syn_term.specs.Terms.{bare}
 use Rattle.syn_form.specs.Substitutions.{Substitution, substituted, substituted_form, substituted_out}
 use Rattle.syn_form.specs.Trees.{bare_form, bare_out}
 use Rattle.syn_row.specs.Rows.{AreVariants, IsRenaming, RowTree, bare_row, row_terms, row_vars, substituted_row}
 use Rattle.syn_row.specs.RowLaws.{VariantLaws}
 use Rattle.syn_row.proofs.Changes.{changes_after, changes_alike, changes_bare, changes_substituted, out_changes_after, out_changes_alike, out_changes_bare, out_changes_substituted}
 use Rattle.syn_row.proofs.Numbers.{bare-variable}
-use Rattle.syn_row.proofs.Renaming.{Within, back_by, back_renames, both_by, both_rename, substituted-blind, substituted-none, substituted_after, substituted_back, substituted_both}
-use Rattle.syn_row.proofs.RowChanges.{row_vars-along, row_vars-renamed, row_within, rows_along, rows_both, rows_same, rows_substituted, rows_after}
+use Rattle.syn_row.proofs.Renaming.{back_by, back_renames, both_by, both_rename, substituted-blind, substituted-none, substituted_back, substituted_both}
+use Rattle.syn_row.proofs.RowChanges.{row_vars-along, row_vars-renamed, row_within, rows_along, rows_same, rows_substituted, rows_after}
 
 none_renames : (vars : List Var) → IsRenaming vars []
 none_renames vars = record { to = λ v. v; is = λ v c. bare-variable v; sorts = λ v c. refl; one = λ v w c d e. e }

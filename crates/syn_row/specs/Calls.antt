@@ -25,3 +25,7 @@ standing_step f (Node-F.App place g args) = record { tree = view.App place g (ma
 -- the applications of the symbol that stand in a term, with their places, from the left, the outer before the inner
 abbrev pub calls_standing : SymId → TermTree → List TermTree
 calls_standing f t = (fold-Node WithCalls (standing_step f) t).calls
+
+-- those in the terms of a formula
+abbrev pub calls_standing_form : SymId → FormTree → List TermTree
+calls_standing_form f g = flat_map (calls_standing f) (form_terms g)

@@ -18,6 +18,7 @@ use Rattle.syn_form.specs.Plain.{IsFormed, IsSorted}
 use Rattle.syn_form.specs.Substitutions.{Substitution, image}
 use Rattle.syn_form.specs.Trees.{FormTree, OutTree, all_of, form_terms, form_vars, out_vars, term_vars}
 use Rattle.syn_row.specs.declared.guards.GuardRule.{GuardRule}
+use Rattle.syn_row.specs.Results.{out_list}
 use Rattle.syn_row.specs.Rows.{first_occurrences}
 
 -- Of a table: the order compares two lists of arguments of the program's sorts, the inputs have these sorts, and the input
@@ -96,3 +97,8 @@ guard_of rule call = view.And (form.Atom rule.order (args_of call ++ map (λ b. 
 abbrev pub guards_of : Option GuardRule → (SymId → List TermTree) → List FormTree
 guards_of None calls = []
 guards_of (Some rule) calls = map (guard_of rule) (calls rule.program)
+
+-- the guards of a step of two parents with these outputs: of the calls that the substitution brings into both, and of those in the
+-- test where both are there
+abbrev pub joined_guards : Option GuardRule → Substitution → FormTree → Option OutTree → Option OutTree → List FormTree
+joined_guards rule σ p first second = guards_of rule (λ f. brought σ (out_list first ++ out_list second) f ++ test_calls first second p f)

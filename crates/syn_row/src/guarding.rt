@@ -1,4 +1,4 @@
-// The guards of recursive calls, and the calls that stand in terms and formulas.
+// The guards of recursive calls.
 ghost use Rattle.std.specs.Prelude.{◌≡◌, ◌++◌, ◌∷◌, [], map, All, Contains, IfNone, IfOk, IfSome, MatchOption, OnOk};
 ghost use Rattle.std.specs.List.{flat_map};
 ghost use Rattle.std.specs.Option.{option_copied};
@@ -15,6 +15,7 @@ ghost use Rattle.syn_row.specs.Calls.{forms_terms};
 ghost use Rattle.syn_row.specs.inner.Guarding.{guard_over};
 
 use crate::guards::GuardRule;
+use crate::renumbering::conjunction_of;
 use sqlite_items::Items;
 use std::alloc::Global;
 use syn_form::{Form, put_inputs};
@@ -119,14 +120,31 @@ fn put_condition(
     made
 }
 
+/// Appends both formulas.
+fn put_both(members: &mut Items<Form>, f: Form, g: Form) -> Result<(), NoMemory>
+    ensures { OnOk result (members.new ≡ members.old ++ (f ∷ g ∷ [])) }
+{
+    match members.push(f) {
+        Ok(()) => Ok(members.push(g)?),
+        Err(_) => {
+            drop(g);
+            Err(NoMemory)
+        }
+    }
+}
+
 /// The `and` of both.
 fn both_of(alloc: Global, f: Form, g: Form) -> Result<Form, NoMemory>
     ensures { IfOk result (λ h. h ≡ views.And (f ∷ g ∷ [])) }
 {
     let mut members = Items::new(alloc);
-    members.push(f)?;
-    members.push(g)?;
-    Ok(Form::And(Shared::new(alloc, members)?))
+    match put_both(&mut members, f, g) {
+        Ok(()) => conjunction_of(alloc, members),
+        Err(error) => {
+            drop(members);
+            Err(error)
+        }
+    }
 }
 
 /// The guard of a call with these arguments.

@@ -3,6 +3,7 @@
 //! all variants of a simplified row have in common.
 #![tactic(auto)]
 
+mod calls;
 mod direction;
 mod giving;
 mod guarding;
@@ -15,6 +16,7 @@ mod renumbering;
 mod rows;
 mod weighing;
 
+pub use calls::{put_calls, put_form_calls};
 pub use direction::Dir;
 pub use giving::{Weighed, given};
 pub use guarding::{call_guards, guard};

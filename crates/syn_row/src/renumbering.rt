@@ -200,7 +200,7 @@ fn negation_of(alloc: Global, a: Form) -> Result<Form, NoMemory>
 }
 
 /// The `and` of the formulas.
-fn conjunction_of(alloc: Global, all: Items<Form>) -> Result<Form, NoMemory>
+pub(crate) fn conjunction_of(alloc: Global, all: Items<Form>) -> Result<Form, NoMemory>
     ensures { IfOk result (λ g. g ≡ views.And all) }
 {
     match Shared::new(alloc, all) {

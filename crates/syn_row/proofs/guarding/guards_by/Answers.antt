@@ -1,4 +1,4 @@
-use Rattle.std.proofs.Common.{◌+◌, ◌<◌, ◌≤◌, ◌≡◌, List, length, take, map, ap, sym, ◌∙◌, arith, Contains}
+use Rattle.std.proofs.Common.{◌<◌, ◌≡◌, List, length, take, ap, arith}
 use Rattle.std.specs.List.{flat_map}
 use Rattle.std.proofs.lemmas.List.{take_all}
 use Rattle.std.proofs.lemmas.Option.{MatchOption-at_some}

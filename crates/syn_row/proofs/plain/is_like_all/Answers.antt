@@ -1,4 +1,3 @@
-use Rattle.std.proofs.Common.{All}
 use Rattle.std.proofs.lemmas.List.Elements.{All-more}
 use Rattle.syn_form.proofs.Deciding.{all_pass, fails, first_fails}
 use Rattle.syn_row.specs.inner.Renumbering.{AreLike}

@@ -1,4 +1,4 @@
-use Rattle.std.proofs.Common.{All, ◌≡◌, ◌+◌, ◌*◌, ◌<◌, ◌∙◌, inl, inr, length, map, sum, refl, subst, sym, ap, arith}
+use Rattle.std.proofs.Common.{All, ◌+◌, ◌*◌, ◌<◌, ◌∙◌, inl, inr, length, map, sum, refl, subst, sym, arith}
 use Rattle.std.proofs.lemmas.Result.{IfOk-weaker}
 use Rattle.syn_term.specs.Bank.{Belongs, Extends-trans}
 use Rattle.syn_form.specs.Inputs.{terms_size}
@@ -9,10 +9,10 @@ use Rattle.syn_form.proofs.Fewer.{fewer_sides, no_more}
 use Rattle.syn_form.proofs.FormedForms.{atom_formed, equality_formed, negation_formed, chain_formed, implication_formed}
 use Rattle.syn_form.proofs.InputTerms.{all_still}
 use Rattle.syn_form.proofs.MadeTerms.{count_more, count_within, item_of, made_more}
-use Rattle.syn_form.proofs.OnTerms.{all-chain, all-Implies, chain_end, fewer_negated, made_chain, made_both, terms_more}
+use Rattle.syn_form.proofs.OnTerms.{all-chain, all-Implies, fewer_negated, made_chain, made_both, terms_more}
 use Rattle.syn_form.proofs.ReplacingEnds.{fewer_members}
-use Rattle.syn_row.specs.inner.Renumbering.{renumbered, renumbered_form}
-use Rattle.syn_row.proofs.Parts.{own_atom, own_equality, own_negation, own_chain, own_left, own_right, own_member}
+use Rattle.syn_row.specs.inner.Renumbering.{renumbered_form}
+use Rattle.syn_row.proofs.Parts.{own_negation, own_chain, own_left, own_right, own_member}
 use Rattle.syn_row.proofs.renumbering.+forms.Goals as goal
 
 pub renumber_form-renumber_atom-requires-clause-sorted : goal.renumber_form-renumber_atom-requires-clause-sorted

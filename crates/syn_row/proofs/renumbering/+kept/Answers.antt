@@ -1,4 +1,4 @@
-use Rattle.std.proofs.Common.{◌≡◌, ◌+◌, ◌*◌, ◌<◌, length, map, sum, refl, sym, ◌∙◌, arith}
+use Rattle.std.proofs.Common.{◌+◌, ◌*◌, ◌<◌, length, map, sum, refl, sym, ◌∙◌, arith}
 use Rattle.syn_term.specs.Terms.{bare, nodes}
 use Rattle.syn_term.proofs.Lists.{items_differ, next_same, wholes}
 use Rattle.syn_form.proofs.Deciding.{fails, first_fails, holds, same_fact}

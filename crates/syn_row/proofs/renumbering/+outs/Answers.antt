@@ -1,8 +1,8 @@
-use Rattle.std.proofs.Common.{All, [], ◌≡◌, ◌+◌, ◌*◌, ◌<◌, ◌∙◌, refl, subst, sym, ap, arith}
+use Rattle.std.proofs.Common.{All, [], ◌+◌, ◌*◌, ◌<◌, subst, sym, arith}
 use Rattle.std.proofs.lemmas.Result.{IfOk-weaker}
 use Rattle.std.proofs.lemmas.List.Elements.{All-head}
-use Rattle.syn_term.specs.Bank.{Belongs, Extends-trans}
-use Rattle.syn_form.specs.Trees.{FormTree, OutTree, bare_out, out_nodes, out_terms}
+use Rattle.syn_term.specs.Bank.{Belongs}
+use Rattle.syn_form.specs.Trees.{OutTree, out_nodes, out_terms}
 use Rattle.syn_form.proofs.FormedForms.{choice_formed, term_formed}
 use Rattle.syn_form.proofs.InputTerms.{all_still}
 use Rattle.syn_row.proofs.Parts.{choice_own, own_first, own_given, own_second, own_test}

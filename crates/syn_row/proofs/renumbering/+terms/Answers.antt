@@ -1,13 +1,12 @@
 use Rattle.std.proofs.Common.{◌+◌, ◌*◌, ◌<◌, ◌∙◌, length, map, sum, ◌≡◌, None, refl, sym, ap, arith}
-use Rattle.std.proofs.lemmas.Result.{IfOk-weaker}
 use Rattle.syn_term.specs.Bank.{Belongs, Belongs-extends, Extends-trans}
 use Rattle.syn_term.specs.Terms.{bare, nodes}
 use Rattle.syn_form.specs.Plain.{IsSorted}
-use Rattle.syn_form.proofs.InputTerms.{all_still, fewer_args, refused}
+use Rattle.syn_form.proofs.InputTerms.{fewer_args, refused}
 use Rattle.syn_form.proofs.MadeTerms.{belongs_more, count_more, count_within, item_of, made_more, no_more_than_all}
 use Rattle.syn_form.proofs.SortedTerms.{application_sorted}
 use Rattle.syn_row.specs.inner.Renumbering.{renumbered}
-use Rattle.syn_row.proofs.Keeping.{app_made, applies_still, var_made}
+use Rattle.syn_row.proofs.Keeping.{applies_still}
 use Rattle.syn_row.proofs.OwnArgs.{own_args}
 use Rattle.syn_row.proofs.renumbering.+terms.Goals as goal
 

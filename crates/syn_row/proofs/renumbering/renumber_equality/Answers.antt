@@ -1,4 +1,4 @@
-use Rattle.std.proofs.Common.{All, ◌∷◌, []}
+use Rattle.std.proofs.Common.{◌∷◌, []}
 use Rattle.std.proofs.lemmas.List.Elements.{All-head, All-tail}
 use Rattle.syn_term.specs.Bank.{Belongs, Belongs-extends}
 use Rattle.syn_form.proofs.OnTerms.{all-Equal}
