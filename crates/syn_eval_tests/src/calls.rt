@@ -109,11 +109,12 @@ fn called(
 ) -> Result<String, Fail>
     requires { (case.now).turns ≤ 2 ^ 32 }
 {
-    let args = args_of(alloc, spec, case.args)?;
+    let values = args_of(alloc, spec, case.args)?;
+    let args = values.as_slice();
     let program = program_of(alloc, theory, spec, case.text)?;
     let answer = match by {
-        Evaluator::Recursion => eval(alloc, theory, &program, args.as_slice(), case.turns),
-        Evaluator::Machine => run_program(alloc, theory, &program, args.as_slice(), case.turns),
+        Evaluator::Recursion => eval(alloc, theory, &program, args, case.turns),
+        Evaluator::Machine => run_program(alloc, theory, &program, args, case.turns),
     };
     match answer {
         Ok((value, turns)) => {
