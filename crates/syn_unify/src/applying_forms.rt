@@ -2,7 +2,7 @@
 ghost use Rattle.std.specs.Prelude.{◌≡◌, ◌+◌, ◌++◌, ◌≤◌, All, Contains, IfNone, IfOk, IfSome, IsTrue, MatchOption, ◌↔◌};
 ghost use Rattle.syn_term.specs.Bank.{Belongs, Extends};
 ghost use Rattle.syn_term.specs.declared.sorts.Var.{Var};
-ghost use Rattle.syn_form.specs.Plain.{IsFormed, IsFormedOut};
+ghost use Rattle.syn_form.specs.Plain.{HasOneSortEach, IsFormed, IsFormedOut, IsPlainForm, IsPlainOut};
 ghost use Rattle.syn_form.specs.Substitutions.{KeepsSorts, substituted_form, substituted_out};
 ghost use Rattle.syn_form.specs.Trees.{bare_form, bare_out, form_depth, form_nodes, form_terms, form_vars, out_depth, out_nodes, out_terms, out_vars};
 ghost use Rattle.syn_unify.specs.Bindings.{BindsOnce, BindsOwn, IsWithin, bound_vars, form_over_bound, out_over_bound};
@@ -50,7 +50,8 @@ fn put_in_form(
 /// The formula with each variable that the substitution binds replaced, all at once; None exactly where what
 /// comes of it has more than 65,536 nodes or is deeper than 2,400, which is found before anything is made.
 ///
-/// It is formed as the formula is, and has variables of the formula and of the terms put in alone. A part of a
+/// It is formed as the formula is, and has variables of the formula and of the terms put in alone; so it is plain where no
+/// number has two sorts among these. A part of a
 /// term without bound variables is handed on, so the bank makes no more nodes than symbols of terms stand over a
 /// bound variable. The one error is `NoMemory`.
 #[tactic(auto, using(crate::proofs::Growth::growth))]
@@ -68,6 +69,7 @@ pub fn apply(
     ensures tree { IfOk result (λ o. MatchOption o (¬ (IsWithin (form_nodes (substituted_form s.now f.now)) (form_depth (substituted_form s.now f.now)))) (λ g. IsWithin (form_nodes (substituted_form s.now f.now)) (form_depth (substituted_form s.now f.now)) × (bare_form g ≡ bare_form (substituted_form s.now f.now)))) }
     ensures formed { IfOk result (λ o. IfSome o (IsFormed syms.now)) }
     ensures vars { IfOk result (λ o. IfSome o (λ g. (w : Var) → Contains (form_vars g) w → Contains (form_vars f.now ++ bound_vars s.now) w)) }
+    ensures plain { HasOneSortEach (form_vars f.now ++ bound_vars s.now) → IfOk result (λ o. IfSome o (IsPlainForm syms.now)) }
     ensures none { IfOk result (λ o. IfNone o (bank.new ≡ bank.old)) }
     ensures made { bank.new.made ≤ bank.old.made + form_over_bound s.now f.now }
     ensures extends { Extends bank.old bank.new }
@@ -128,6 +130,7 @@ pub fn apply_out(
     ensures tree { IfOk result (λ r. MatchOption r (¬ (IsWithin (out_nodes (substituted_out s.now o.now)) (out_depth (substituted_out s.now o.now)))) (λ p. IsWithin (out_nodes (substituted_out s.now o.now)) (out_depth (substituted_out s.now o.now)) × (bare_out p ≡ bare_out (substituted_out s.now o.now)))) }
     ensures formed { IfOk result (λ r. IfSome r (IsFormedOut syms.now)) }
     ensures vars { IfOk result (λ r. IfSome r (λ p. (w : Var) → Contains (out_vars p) w → Contains (out_vars o.now ++ bound_vars s.now) w)) }
+    ensures plain { HasOneSortEach (out_vars o.now ++ bound_vars s.now) → IfOk result (λ r. IfSome r (IsPlainOut syms.now)) }
     ensures none { IfOk result (λ r. IfNone r (bank.new ≡ bank.old)) }
     ensures made { bank.new.made ≤ bank.old.made + out_over_bound s.now o.now }
     ensures extends { Extends bank.old bank.new }
