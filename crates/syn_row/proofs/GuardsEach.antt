@@ -5,8 +5,7 @@ use Rattle.std.proofs.lemmas.Grind.{flat_map-append}
 use Rattle.std.proofs.lemmas.List.{map-append, take_more}
 use Rattle.std.proofs.lemmas.List.Elements.{All-append, All-cons, All-nil}
 use Rattle.syn_term.specs.Bank.{Belongs, Belongs-extends, Extends, Kept}
-use Rattle.syn_form.specs.Trees.{form_terms}
-use Rattle.syn_form.specs.Trees.{FormTree}
+use Rattle.syn_form.specs.Trees.{FormTree, form_terms}
 use Rattle.syn_form.proofs.Lists.{Contains-along, Contains-append_both}
 use Rattle.syn_row.specs.declared.guards.GuardRule.{GuardRule}
 use Rattle.syn_row.specs.Calls.{forms_terms}

@@ -1,6 +1,6 @@
 //! Rows of a tableau: a goal or an assertion with a formula and maybe an output. When two rows are one,
 //! when they are variants, which differ in the names of variables alone, and the canonical row, which
-//! all variants of a simplified row have in common.
+//! all variants of a simplified row have in common. The calls of a symbol that stand in terms, and their guards.
 #![tactic(auto)]
 
 mod calls;
