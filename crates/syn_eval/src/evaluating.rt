@@ -50,10 +50,15 @@ pub(crate) fn eval_term(
     ensures fits { IfOk result (λ p. HasRoom (turns - p.1) p.0) }
 {
     match t.get() {
-        Node::Var(_, v) => Ok((variable_value(scope.values, v.number)?, 0)),
+        Node::Var(_, v) => match variable_value(scope.values, v.number) {
+            Ok(value) => Ok((value, 0)),
+            Err(_) => Err(EvalError::NoMemory),
+        },
         Node::App(_, f, args) => {
             let (args, used) = eval_terms(scope, args.as_slice(), turns)?;
-            let (value, more) = call(scope, *f, args.as_slice(), turns - used)?;
+            let outcome = call(scope, *f, args.as_slice(), turns - used);
+            drop(args);
+            let (value, more) = outcome?;
             Ok((value, used + more))
         }
     }
@@ -156,8 +161,12 @@ fn call_function(
                 inputs: &[],
                 values: chosen.values.as_slice(),
             };
-            let (value, used) = eval_out(&scope, chosen.body, turns - 1)?;
-            Ok((value, 1 + used))
+            let outcome = eval_out(&scope, chosen.body, turns - 1);
+            drop(chosen);
+            match outcome {
+                Ok((value, used)) => Ok((value, 1 + used)),
+                Err(error) => Err(error),
+            }
         }
     }
 }
@@ -249,8 +258,18 @@ fn eval_equal(
     ensures within { IfOk result (λ p. p.1 ≤ turns) }
 {
     let (v, used) = eval_term(scope, first, turns)?;
-    let (w, more) = eval_term(scope, second, turns - used)?;
-    Ok((v.same(&w), used + more))
+    match eval_term(scope, second, turns - used) {
+        Ok((w, more)) => {
+            let is = v.same(&w);
+            drop(v);
+            drop(w);
+            Ok((is, used + more))
+        }
+        Err(error) => {
+            drop(v);
+            Err(error)
+        }
+    }
 }
 
 /// The truth value of an implication, whose two sides are both evaluated.
@@ -268,6 +287,28 @@ fn eval_implies(
     let (x, used) = eval_form(scope, first, turns)?;
     let (y, more) = eval_form(scope, second, turns - used)?;
     Ok((implies(x, y), used + more))
+}
+
+/// The truth value of the `and` of the formulas, all of which are evaluated.
+#[cycle(eval)]
+fn eval_and(scope: &Scope<'_, '_>, all: &[Form], turns: u64) -> Result<(bool, u64), EvalError>
+    requires fits { ScopeHasRoom scope.now turns }
+    ensures ends { Ends (form_in scope.now (form_views.And all.now)) turns result }
+    ensures within { IfOk result (λ p. p.1 ≤ turns) }
+{
+    let (tally, used) = eval_forms(scope, all, turns)?;
+    Ok((tally.all, used))
+}
+
+/// The truth value of the `or` of the formulas, all of which are evaluated.
+#[cycle(eval)]
+fn eval_or(scope: &Scope<'_, '_>, all: &[Form], turns: u64) -> Result<(bool, u64), EvalError>
+    requires fits { ScopeHasRoom scope.now turns }
+    ensures ends { Ends (form_in scope.now (form_views.Or all.now)) turns result }
+    ensures within { IfOk result (λ p. p.1 ≤ turns) }
+{
+    let (tally, used) = eval_forms(scope, all, turns)?;
+    Ok((tally.any, used))
 }
 
 /// The truth value of a formula; all members of a connective are evaluated.
@@ -290,14 +331,8 @@ pub(crate) fn eval_form(
             let (is, used) = eval_form(scope, a.get(), turns)?;
             Ok((!is, used))
         }
-        Form::And(all) => {
-            let (tally, used) = eval_forms(scope, all.get().as_slice(), turns)?;
-            Ok((tally.all, used))
-        }
-        Form::Or(all) => {
-            let (tally, used) = eval_forms(scope, all.get().as_slice(), turns)?;
-            Ok((tally.any, used))
-        }
+        Form::And(all) => eval_and(scope, all.get().as_slice(), turns),
+        Form::Or(all) => eval_or(scope, all.get().as_slice(), turns),
         Form::Implies(a, b) => eval_implies(scope, a.get(), b.get(), turns),
     }
 }
@@ -382,8 +417,12 @@ fn ask_relation(
                 inputs: &[],
                 values: chosen.values.as_slice(),
             };
-            let (is, used) = eval_form(&scope, chosen.body, turns - 1)?;
-            Ok((is, 1 + used))
+            let outcome = eval_form(&scope, chosen.body, turns - 1);
+            drop(chosen);
+            match outcome {
+                Ok((is, used)) => Ok((is, 1 + used)),
+                Err(error) => Err(error),
+            }
         }
     }
 }

@@ -153,8 +153,13 @@ pub(crate) fn changed_terms(
     for i in 0..ts.len() {
         if let Some(first) = changed_term(alloc, bank, syms, change, &ts[i])? {
             let mut done = begun(alloc, &ts[..i], first)?;
-            put_changed(alloc, bank, syms, change, &ts[i + 1..], &mut done)?;
-            return Ok(Some(done));
+            return match put_changed(alloc, bank, syms, change, &ts[i + 1..], &mut done) {
+                Ok(()) => Ok(Some(done)),
+                Err(error) => {
+                    drop(done);
+                    Err(error)
+                }
+            };
         }
     }
     Ok(None)

@@ -196,7 +196,7 @@ fn bind_term(
     Ok(true)
 }
 
-/// Makes the variable, which isn't bound, and the term one.
+/// Makes the variable, which isn't bound, and the term one, or what this is bound to.
 #[tactic(auto, using(crate::proofs::Growth::growth))]
 fn meet(
     alloc: Global,
@@ -210,12 +210,15 @@ fn meet(
     requires keeps { KeepsSorts syms.now (seen bound.old) }
     requires own { BindsOwn bank.old (seen bound.old) }
     requires belongs { Belongs bank.old t.now }
-    ensures met { IfOk result (Meets syms.now x t.now (seen bound.old) (seen bound.new)) }
+    ensures met { IfOk result (Meets syms.now x (top_of (seen bound.old) t.now) (seen bound.old) (seen bound.new)) }
     ensures extends { Extends bank.old bank.new }
     ensures own { IfOk result (λ _. BindsOwn bank.new (seen bound.new)) }
 {
-    let u = whole_term(alloc, bank, syms, &Change::Bind(bound.as_slice()), t)?;
-    bind_term(alloc, bank, syms, bound, x, u)
+    let s = top(bound.as_slice(), t);
+    match whole_term(alloc, bank, syms, &Change::Bind(bound.as_slice()), s) {
+        Ok(u) => bind_term(alloc, bank, syms, bound, x, u),
+        Err(error) => Err(error),
+    }
 }
 
 /// Takes one pair apart, or binds its variable; false where nothing makes its terms one.
@@ -238,19 +241,15 @@ pub(crate) fn step(
     ensures own { IfOk result (λ _. BindsOwn bank.new (seen bound.new)) }
     ensures left { IfOk result (λ on. IsTrue on → All (PairBelongs bank.new) left.new) }
 {
-    let s = top(bound.as_slice(), &pair.left);
-    let t = top(bound.as_slice(), &pair.right);
-    match s.get() {
+    match top(bound.as_slice(), &pair.left).get() {
         Node::Var(_, x) => {
             let x = *x;
-            let t = t.again()?;
-            meet(alloc, bank, syms, bound, x, &t)
+            meet(alloc, bank, syms, bound, x, &pair.right)
         }
-        Node::App(_, f, xs) => match t.get() {
+        Node::App(_, f, xs) => match top(bound.as_slice(), &pair.right).get() {
             Node::Var(_, y) => {
                 let y = *y;
-                let s = s.again()?;
-                meet(alloc, bank, syms, bound, y, &s)
+                meet(alloc, bank, syms, bound, y, &pair.left)
             }
             Node::App(_, g, ys) => split(left, *f, xs.as_slice(), *g, ys.as_slice()),
         },

@@ -142,6 +142,11 @@ abbrev pub Solved : SymbolTable → List Pair → List Var → Option (List Boun
 Solved table first vars None = NoneSolves table first
 Solved table first vars (Some bound) = Reached table first vars (seen bound) []
 
+-- the same where a Bool says whether there is a solution
+abbrev pub Ended : SymbolTable → List Pair → List Var → List Bound → Bool → Type 0
+Ended table first vars bound false = NoneSolves table first
+Ended table first vars bound true = Reached table first vars (seen bound) []
+
 abbrev pub SortedPair : SymbolTable → Pair → Type 0
 SortedPair table p = IsSorted table p.left × IsSorted table p.right
 

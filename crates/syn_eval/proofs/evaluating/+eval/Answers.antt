@@ -68,37 +68,33 @@ call-returns-in_default t c =
       fits = c.construct.ensures.fits;
     }
 
-pub ask_relation-eval_form-requires : goal.ask_relation-eval_form-requires
-ask_relation-eval_form-requires t c =
+pub ask_relation-eval_form-outcome-requires : goal.ask_relation-eval_form-outcome-requires
+ask_relation-eval_form-outcome-requires t c =
     let e = (choice_is c.in_ok-choose.field-0 c.in-Some.chosen _ _ (map rule_seen c.args.rules.now) c.args.args.now c.in-Some.is c.symbols.ensures c.in_ok-choose.ensures) in
     let light : form_nodes c.in-Some.chosen.body.now ≤ all_nodes c.args.set.now = chosen_light form_nodes (all_nodes c.args.set.now) c.args.set.now.table (map rule_seen c.args.rules.now) c.args.args.now (choice_seen c.in-Some.chosen) e c.requires.light in
     let k = body_less c.args.set.now c.args.turns (c.args.turns - 1) _ (4 * form_nodes c.in-Some.chosen.body.now) 1 (omega arith) light (omega arith) in
     let less : (c.args.turns - 1) * weight c.args.set.now + 4 * form_nodes c.in-Some.chosen.body.now < t = omega (arith, k) in
     (less, scope_rooms _ (c.args.turns - 1) (no_rooms _ _ refl) (chosen_room c.args.turns (c.args.turns - 1) c.args.set.now.table (map rule_seen c.args.rules.now) c.args.args.now (choice_seen c.in-Some.chosen) _ (omega arith) e c.as_slice.ensures c.requires.args))
 
-pub ask_relation-returns-in_err-is-in-Some-clause-ends : goal.ask_relation-returns-in_err-is-in-Some-clause-ends
-ask_relation-returns-in_err-is-in-Some-clause-ends t c =
-    let p = err_from_is_err_and c.from_residual-in_err-is-in-Some.result c.from_residual-in_err-is-in-Some.ensures.1 in
-    rw (p.1, p.2) (relation_fails c.args.set.now (map rule_seen c.args.rules.now) c.args.args.now c.args.turns (record { set = c.args.set; inputs = record { ref_ptr = c.args.args.ref_ptr; now = [] }; values = c.as_slice.result }) (choice_seen c.in-Some.chosen) _ (choice_is c.in_ok-choose.field-0 c.in-Some.chosen _ _ (map rule_seen c.args.rules.now) c.args.args.now c.in-Some.is c.symbols.ensures c.in_ok-choose.ensures) refl (record { set = refl; inputs_are = refl; values_are = c.as_slice.ensures }) (omega arith) _ c.in_err-is-in-Some.ensures.ends)
+pub ask_relation-returns-in-Err-clause-ends : goal.ask_relation-returns-in-Err-clause-ends
+ask_relation-returns-in-Err-clause-ends t c = relation_fails c.args.set.now (map rule_seen c.args.rules.now) c.args.args.now c.args.turns (record { set = c.args.set; inputs = record { ref_ptr = c.args.args.ref_ptr; now = [] }; values = c.as_slice.result }) (choice_seen c.in-Some.chosen) _ (choice_is c.in_ok-choose.field-0 c.in-Some.chosen _ _ (map rule_seen c.args.rules.now) c.args.args.now c.in-Some.is c.symbols.ensures c.in_ok-choose.ensures) refl (record { set = refl; inputs_are = refl; values_are = c.as_slice.ensures }) (omega arith) _ c.in-Err.ensures.ends
 
-pub ask_relation-returns-in_ok-is-in-Some-clause-ends : goal.ask_relation-returns-in_ok-is-in-Some-clause-ends
-ask_relation-returns-in_ok-is-in-Some-clause-ends t c = relation_gives c.args.set.now (map rule_seen c.args.rules.now) c.args.args.now c.args.turns (record { set = c.args.set; inputs = record { ref_ptr = c.args.args.ref_ptr; now = [] }; values = c.as_slice.result }) (choice_seen c.in-Some.chosen) _ (choice_is c.in_ok-choose.field-0 c.in-Some.chosen _ _ (map rule_seen c.args.rules.now) c.args.args.now c.in-Some.is c.symbols.ensures c.in_ok-choose.ensures) refl (record { set = refl; inputs_are = refl; values_are = c.as_slice.ensures }) (omega arith) _ _ c.in_ok-is-in-Some.ensures.ends
+pub ask_relation-returns-in-Ok-clause-ends : goal.ask_relation-returns-in-Ok-clause-ends
+ask_relation-returns-in-Ok-clause-ends t c = relation_gives c.args.set.now (map rule_seen c.args.rules.now) c.args.args.now c.args.turns (record { set = c.args.set; inputs = record { ref_ptr = c.args.args.ref_ptr; now = [] }; values = c.as_slice.result }) (choice_seen c.in-Some.chosen) _ (choice_is c.in_ok-choose.field-0 c.in-Some.chosen _ _ (map rule_seen c.args.rules.now) c.args.args.now c.in-Some.is c.symbols.ensures c.in_ok-choose.ensures) refl (record { set = refl; inputs_are = refl; values_are = c.as_slice.ensures }) (omega arith) _ _ c.in-Ok.ensures.ends
 
-pub call_function-eval_out-requires : goal.call_function-eval_out-requires
-call_function-eval_out-requires t c =
+pub call_function-eval_out-outcome-requires : goal.call_function-eval_out-outcome-requires
+call_function-eval_out-outcome-requires t c =
     let e = (choice_is c.in_ok-choose.field-0 c.in-Some.chosen _ _ (map rule_seen c.args.rules.now) c.args.args.now c.in-Some.is c.symbols.ensures c.in_ok-choose.ensures) in
     let light : out_nodes c.in-Some.chosen.body.now ≤ all_nodes c.args.set.now = chosen_light out_nodes (all_nodes c.args.set.now) c.args.set.now.table (map rule_seen c.args.rules.now) c.args.args.now (choice_seen c.in-Some.chosen) e c.requires.light in
     let k = body_less c.args.set.now c.args.turns (c.args.turns - 1) _ (4 * out_nodes c.in-Some.chosen.body.now + 1) 2 (omega arith) light (omega arith) in
     let less : (c.args.turns - 1) * weight c.args.set.now + (4 * out_nodes c.in-Some.chosen.body.now + 1) < t = omega (arith, k) in
     (less, scope_rooms _ (c.args.turns - 1) (no_rooms _ _ refl) (chosen_room c.args.turns (c.args.turns - 1) c.args.set.now.table (map rule_seen c.args.rules.now) c.args.args.now (choice_seen c.in-Some.chosen) _ (omega arith) e c.as_slice.ensures c.requires.args))
 
-pub call_function-returns-in_err-value-in-Some-clause-ends : goal.call_function-returns-in_err-value-in-Some-clause-ends
-call_function-returns-in_err-value-in-Some-clause-ends t c =
-    let p = err_from_is_err_and c.from_residual-in_err-value-in-Some.result c.from_residual-in_err-value-in-Some.ensures.1 in
-    rw (p.1, p.2) (function_fails c.args.set.now (map rule_seen c.args.rules.now) c.args.args.now c.args.turns (record { set = c.args.set; inputs = record { ref_ptr = c.args.args.ref_ptr; now = [] }; values = c.as_slice.result }) (choice_seen c.in-Some.chosen) _ (choice_is c.in_ok-choose.field-0 c.in-Some.chosen _ _ (map rule_seen c.args.rules.now) c.args.args.now c.in-Some.is c.symbols.ensures c.in_ok-choose.ensures) refl (record { set = refl; inputs_are = refl; values_are = c.as_slice.ensures }) (omega arith) _ c.in_err-value-in-Some.ensures.ends)
+pub call_function-returns-in-Err-clause-ends : goal.call_function-returns-in-Err-clause-ends
+call_function-returns-in-Err-clause-ends t c = function_fails c.args.set.now (map rule_seen c.args.rules.now) c.args.args.now c.args.turns (record { set = c.args.set; inputs = record { ref_ptr = c.args.args.ref_ptr; now = [] }; values = c.as_slice.result }) (choice_seen c.in-Some.chosen) _ (choice_is c.in_ok-choose.field-0 c.in-Some.chosen _ _ (map rule_seen c.args.rules.now) c.args.args.now c.in-Some.is c.symbols.ensures c.in_ok-choose.ensures) refl (record { set = refl; inputs_are = refl; values_are = c.as_slice.ensures }) (omega arith) _ c.in-Err.ensures.ends
 
-pub call_function-returns-in_ok-value-in-Some-clause-ends : goal.call_function-returns-in_ok-value-in-Some-clause-ends
-call_function-returns-in_ok-value-in-Some-clause-ends t c = function_gives c.args.set.now (map rule_seen c.args.rules.now) c.args.args.now c.args.turns (record { set = c.args.set; inputs = record { ref_ptr = c.args.args.ref_ptr; now = [] }; values = c.as_slice.result }) (choice_seen c.in-Some.chosen) _ (choice_is c.in_ok-choose.field-0 c.in-Some.chosen _ _ (map rule_seen c.args.rules.now) c.args.args.now c.in-Some.is c.symbols.ensures c.in_ok-choose.ensures) refl (record { set = refl; inputs_are = refl; values_are = c.as_slice.ensures }) (omega arith) _ _ c.in_ok-value-in-Some.ensures.ends
+pub call_function-returns-in-Ok-clause-ends : goal.call_function-returns-in-Ok-clause-ends
+call_function-returns-in-Ok-clause-ends t c = function_gives c.args.set.now (map rule_seen c.args.rules.now) c.args.args.now c.args.turns (record { set = c.args.set; inputs = record { ref_ptr = c.args.args.ref_ptr; now = [] }; values = c.as_slice.result }) (choice_seen c.in-Some.chosen) _ (choice_is c.in_ok-choose.field-0 c.in-Some.chosen _ _ (map rule_seen c.args.rules.now) c.args.args.now c.in-Some.is c.symbols.ensures c.in_ok-choose.ensures) refl (record { set = refl; inputs_are = refl; values_are = c.as_slice.ensures }) (omega arith) _ _ c.in-Ok.ensures.ends
 
 pub call_program-eval_out-requires : goal.call_program-eval_out-requires
 call_program-eval_out-requires t c =
@@ -117,11 +113,11 @@ call_program-returns-in_ok-value-in-Some-clause-ends t c = program_gives c.args.
 
 pub eval_term-returns-in_err-args-in-App-clause-ends : goal.eval_term-returns-in_err-args-in-App-clause-ends
 eval_term-returns-in_err-args-in-App-clause-ends t c =
-    let p = err_from_is_err_and c.from_residual-in_err-args-in-App.result c.from_residual-in_err-args-in-App.ensures.1 in
+    let p = err_from_is_err_and c.from_residual.result c.from_residual.ensures.1 in
     rw (p.1, p.2) (first_fails (terms_in c.args.scope.now c.as_slice.result.now) (value_in c.args.scope.now c.in-App.f) (term_in c.args.scope.now c.args.t.now) (app_is c.args.scope.now _ _ _ _ _ (sym c.get.ensures ∙ c.in-App.is) c.as_slice.ensures) (terms_grow c.args.scope.now c.as_slice.result.now) (value_grows c.args.scope.now c.in-App.f) c.args.turns _ c.in_err-args-in-App.ensures.ends)
 
-pub eval_term-call-requires : goal.eval_term-call-requires
-eval_term-call-requires t c =
+pub eval_term-call-outcome-requires : goal.eval_term-call-outcome-requires
+eval_term-call-outcome-requires t c =
     let k = call_less (weight c.args.scope.now.set.now) c.args.turns (c.args.turns - c.in_ok-args-in-App.used) c.args.t.now _ _ _ (sym c.get.ensures ∙ c.in-App.is) (omega arith) in
     let less : (c.args.turns - c.in_ok-args-in-App.used) * weight c.args.scope.now.set.now + 3 < t = omega (arith, k) in
     (less, (scope_fewer c.args.scope.now c.args.turns _ (omega arith) c.requires.fits, rooms_same _ _ _ (sym c.as_slice-in-App.ensures) c.in_ok-args-in-App.ensures.fits))
@@ -131,8 +127,8 @@ eval_term-returns-in_err-value-in-App-clause-ends t c =
     let p = err_from_is_err_and c.from_residual-in_err-value-in-App.result c.from_residual-in_err-value-in-App.ensures.1 in
     rw (p.1, p.2) (second_fails (terms_in c.args.scope.now c.as_slice.result.now) (value_in c.args.scope.now c.in-App.f) (term_in c.args.scope.now c.args.t.now) (app_is c.args.scope.now _ _ _ _ _ (sym c.get.ensures ∙ c.in-App.is) c.as_slice.ensures) (terms_grow c.args.scope.now c.as_slice.result.now) (value_grows c.args.scope.now c.in-App.f) c.args.turns c.in_ok-args-in-App.args c.in_ok-args-in-App.used c.in_ok-args-in-App.ensures.ends _ (subst (λ z. Ends (value_in c.args.scope.now c.in-App.f z) (c.args.turns - c.in_ok-args-in-App.used) (Err c.in_err-value-in-App.field-0.0)) c.as_slice-in-App.ensures c.in_err-value-in-App.ensures.ends))
 
-pub eval_term-returns-in_ok-variable_value-in-Var-clause-fits : goal.eval_term-returns-in_ok-variable_value-in-Var-clause-fits
-eval_term-returns-in_ok-variable_value-in-Var-clause-fits t c = variable_room c.args.turns _ _ _ (omega (arith, c.ranges.turns.fits)) c.in_ok-variable_value-in-Var.ensures (values_rooms c.args.scope.now c.args.turns c.requires.fits)
+pub eval_term-returns-in-Ok-clause-fits : goal.eval_term-returns-in-Ok-clause-fits
+eval_term-returns-in-Ok-clause-fits t c = variable_room c.args.turns _ _ _ (omega (arith, c.ranges.turns.fits)) c.in-Ok.ensures (values_rooms c.args.scope.now c.args.turns c.requires.fits)
 
 pub eval_term-returns-in_ok-value-in-App-clause-ends : goal.eval_term-returns-in_ok-value-in-App-clause-ends
 eval_term-returns-in_ok-value-in-App-clause-ends t c = two_within (terms_in c.args.scope.now c.as_slice.result.now) (value_in c.args.scope.now c.in-App.f) (term_in c.args.scope.now c.args.t.now) (app_is c.args.scope.now _ _ _ _ _ (sym c.get.ensures ∙ c.in-App.is) c.as_slice.ensures) (terms_grow c.args.scope.now c.as_slice.result.now) (value_grows c.args.scope.now c.in-App.f) c.args.turns c.in_ok-args-in-App.args c.in_ok-args-in-App.used _ _ c.in_ok-args-in-App.ensures.ends (subst (λ z. IsWithin (value_in c.args.scope.now c.in-App.f z) (c.args.turns - c.in_ok-args-in-App.used) (record { result = c.in_ok-value-in-App.value; turns = c.in_ok-value-in-App.more })) c.as_slice-in-App.ensures c.in_ok-value-in-App.ensures.ends)
@@ -208,13 +204,11 @@ eval_equal-eval_term-requires-2 t c =
     let less : (c.args.turns - c.in_ok-v.used) * weight c.args.scope.now.set.now + 4 * nodes c.args.second.now < t = omega (arith, k) in
     (less, scope_fewer c.args.scope.now c.args.turns _ (omega arith) c.requires.fits)
 
-pub eval_equal-returns-in_err-w-clause-ends : goal.eval_equal-returns-in_err-w-clause-ends
-eval_equal-returns-in_err-w-clause-ends t c =
-    let p = err_from_is_err_and c.from_residual-in_err-w.result c.from_residual-in_err-w.ensures.1 in
-    rw (p.1, p.2) (second_fails (term_in c.args.scope.now c.args.first.now) (same_as c.args.scope.now c.args.second.now) (form_in c.args.scope.now (form.Equal c.args.first.now c.args.second.now)) (equal_is c.args.scope.now _ _ _ refl) (term_grows c.args.scope.now c.args.first.now) (same_as_grows c.args.scope.now c.args.second.now) c.args.turns c.in_ok-v.v c.in_ok-v.used c.in_ok-v.ensures.ends _ (made_fails (same_value c.in_ok-v.v) (term_in c.args.scope.now c.args.second.now) _ _ c.in_err-w.ensures.ends))
+pub eval_equal-returns-in-Err-clause-ends : goal.eval_equal-returns-in-Err-clause-ends
+eval_equal-returns-in-Err-clause-ends t c = second_fails (term_in c.args.scope.now c.args.first.now) (same_as c.args.scope.now c.args.second.now) (form_in c.args.scope.now (form.Equal c.args.first.now c.args.second.now)) (equal_is c.args.scope.now _ _ _ refl) (term_grows c.args.scope.now c.args.first.now) (same_as_grows c.args.scope.now c.args.second.now) c.args.turns c.in_ok-v.v c.in_ok-v.used c.in_ok-v.ensures.ends _ (made_fails (same_value c.in_ok-v.v) (term_in c.args.scope.now c.args.second.now) _ _ c.in-Err.ensures.ends)
 
-pub eval_equal-returns-clause-ends : goal.eval_equal-returns-clause-ends
-eval_equal-returns-clause-ends t c = two_within (term_in c.args.scope.now c.args.first.now) (same_as c.args.scope.now c.args.second.now) (form_in c.args.scope.now (form.Equal c.args.first.now c.args.second.now)) (equal_is c.args.scope.now _ _ _ refl) (term_grows c.args.scope.now c.args.first.now) (same_as_grows c.args.scope.now c.args.second.now) c.args.turns c.in_ok-v.v c.in_ok-v.used _ _ c.in_ok-v.ensures.ends (told_same c.args.scope.now c.args.second.now c.in_ok-v.v c.in_ok-w.w _ _ c.same.result c.same.ensures c.in_ok-w.ensures.ends)
+pub eval_equal-returns-in-Ok-clause-ends : goal.eval_equal-returns-in-Ok-clause-ends
+eval_equal-returns-in-Ok-clause-ends t c = two_within (term_in c.args.scope.now c.args.first.now) (same_as c.args.scope.now c.args.second.now) (form_in c.args.scope.now (form.Equal c.args.first.now c.args.second.now)) (equal_is c.args.scope.now _ _ _ refl) (term_grows c.args.scope.now c.args.first.now) (same_as_grows c.args.scope.now c.args.second.now) c.args.turns c.in_ok-v.v c.in_ok-v.used _ _ c.in_ok-v.ensures.ends (told_same c.args.scope.now c.args.second.now c.in_ok-v.v c.in-Ok.w _ _ c.same-is.result c.same-is.ensures c.in-Ok.ensures.ends)
 
 pub eval_implies-returns-in_err-x-clause-ends : goal.eval_implies-returns-in_err-x-clause-ends
 eval_implies-returns-in_err-x-clause-ends t c =
@@ -267,15 +261,21 @@ eval_form-returns-in_err-is-in-Not-clause-ends t c =
     let p = err_from_is_err_and c.from_residual.result c.from_residual.ensures.1 in
     rw (p.1, p.2) (ends_same _ _ c.args.turns (not_is c.args.scope.now _ _ _ c.in-Not.is c.get-in-Not.ensures) (Err c.in_err-is-in-Not.field-0.0) (made_fails not (form_in c.args.scope.now c.get-in-Not.result.now) _ _ c.in_err-is-in-Not.ensures.ends))
 
-pub eval_form-returns-in_err-tally-in-And-clause-ends : goal.eval_form-returns-in_err-tally-in-And-clause-ends
-eval_form-returns-in_err-tally-in-And-clause-ends t c =
-    let p = err_from_is_err_and c.from_residual-in_err-tally-in-And.result c.from_residual-in_err-tally-in-And.ensures.1 in
-    rw (p.1, p.2) (ends_same _ _ c.args.turns (and_is c.args.scope.now _ _ _ c.in-And.is (c.as_slice-in-And.ensures ∙ c.get-in-And.ensures)) (Err c.in_err-tally-in-And.field-0.0) (made_fails (λ (z : Tally). z.all) (tally_in c.args.scope.now c.as_slice-in-And.result.now) _ _ c.in_err-tally-in-And.ensures.ends))
+pub eval_form-returns-in-And-clause-ends : goal.eval_form-returns-in-And-clause-ends
+eval_form-returns-in-And-clause-ends t c = form_ends c.args.scope.now c.args.turns _ _ _ (c.in-And.is ∙ ap form_view.And (sym (c.as_slice-in-And.ensures ∙ c.get-in-And.ensures))) c.eval_and.ensures.ends
 
-pub eval_form-returns-in_err-tally-in-Or-clause-ends : goal.eval_form-returns-in_err-tally-in-Or-clause-ends
-eval_form-returns-in_err-tally-in-Or-clause-ends t c =
-    let p = err_from_is_err_and c.from_residual-in_err-tally-in-Or.result c.from_residual-in_err-tally-in-Or.ensures.1 in
-    rw (p.1, p.2) (ends_same _ _ c.args.turns (or_is c.args.scope.now _ _ _ c.in-Or.is (c.as_slice-in-Or.ensures ∙ c.get-in-Or.ensures)) (Err c.in_err-tally-in-Or.field-0.0) (made_fails (λ (z : Tally). z.any) (tally_in c.args.scope.now c.as_slice-in-Or.result.now) _ _ c.in_err-tally-in-Or.ensures.ends))
+pub eval_and-returns-in_err-tally-clause-ends : goal.eval_and-returns-in_err-tally-clause-ends
+eval_and-returns-in_err-tally-clause-ends t c =
+    let p = err_from_is_err_and c.from_residual.result c.from_residual.ensures.1 in
+    rw (p.1, p.2) (ends_same _ _ c.args.turns (and_is c.args.scope.now _ _ _ refl refl) (Err c.in_err-tally.field-0.0) (made_fails (λ (z : Tally). z.all) (tally_in c.args.scope.now c.args.all.now) _ _ c.in_err-tally.ensures.ends))
+
+pub eval_form-returns-in-Or-clause-ends : goal.eval_form-returns-in-Or-clause-ends
+eval_form-returns-in-Or-clause-ends t c = form_ends c.args.scope.now c.args.turns _ _ _ (c.in-Or.is ∙ ap form_view.Or (sym (c.as_slice-in-Or.ensures ∙ c.get-in-Or.ensures))) c.eval_or.ensures.ends
+
+pub eval_or-returns-in_err-tally-clause-ends : goal.eval_or-returns-in_err-tally-clause-ends
+eval_or-returns-in_err-tally-clause-ends t c =
+    let p = err_from_is_err_and c.from_residual.result c.from_residual.ensures.1 in
+    rw (p.1, p.2) (ends_same _ _ c.args.turns (or_is c.args.scope.now _ _ _ refl refl) (Err c.in_err-tally.field-0.0) (made_fails (λ (z : Tally). z.any) (tally_in c.args.scope.now c.args.all.now) _ _ c.in_err-tally.ensures.ends))
 
 pub eval_forms-eval_form-requires : goal.eval_forms-eval_form-requires
 eval_forms-eval_form-requires t c =

@@ -36,6 +36,12 @@ decreases-eval_equal l = l.turns * weight l.scope.now.set.now + (4 * (nodes l.fi
 abbrev pub decreases-eval_implies : goal.decreases-eval_implies
 decreases-eval_implies l = l.turns * weight l.scope.now.set.now + (4 * (form_nodes l.first.now + form_nodes l.second.now) + 1)
 
+abbrev pub decreases-eval_and : goal.decreases-eval_and
+decreases-eval_and l = l.turns * weight l.scope.now.set.now + (4 * sum (map form_nodes l.all.now) + 2)
+
+abbrev pub decreases-eval_or : goal.decreases-eval_or
+decreases-eval_or l = l.turns * weight l.scope.now.set.now + (4 * sum (map form_nodes l.all.now) + 2)
+
 abbrev pub decreases-eval_number : goal.decreases-eval_number
 decreases-eval_number l = l.turns * weight l.scope.now.set.now + (4 * nodes l.t.now + 1)
 

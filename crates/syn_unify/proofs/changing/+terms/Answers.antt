@@ -55,19 +55,19 @@ changed_terms-put_changed-requires t c =
     let extends = Extends-trans _ _ _ c.loop-i.invariant.extends c.changed_term.ensures.extends in
     (less, (c.requires.sorts, (all_rest (IsSorted c.args.syms.now) _ _ c.requires.sorted, (own_still _ _ _ extends c.requires.own, (all_still _ _ _ extends (all_rest (Belongs _) _ _ c.requires.belongs), begun_belongs _ _ _ _ _ _ extends c.requires.belongs (there_holds (Belongs _) _ _ c.in-Some.is c.in_ok-first.ensures.belongs) c.in_ok-done.ensures)))))
 
-pub changed_terms-returns-in_err-put_changed-clause-made : goal.changed_terms-returns-in_err-put_changed-clause-made
-changed_terms-returns-in_err-put_changed-clause-made t c = let within : c.loop-i.i < length c.args.ts.now = omega arith in rest_made (remade_nodes (cost c.args.change.now)) _ _ _ _ _ _ _ _ within c.index-ts-i.is c.loop-i.invariant.made c.changed_term.ensures.made c.put_changed.ensures.made
+pub changed_terms-returns-in-Err-clause-made : goal.changed_terms-returns-in-Err-clause-made
+changed_terms-returns-in-Err-clause-made t c = let within : c.loop-i.i < length c.args.ts.now = omega arith in rest_made (remade_nodes (cost c.args.change.now)) _ _ _ _ _ _ _ _ within c.index-ts-i.is c.loop-i.invariant.made c.changed_term.ensures.made c.put_changed.ensures.made
 
-pub changed_terms-returns-in-Some-clause-tree : goal.changed_terms-returns-in-Some-clause-tree
-changed_terms-returns-in-Some-clause-tree t c =
+pub changed_terms-returns-in-Ok-clause-tree : goal.changed_terms-returns-in-Ok-clause-tree
+changed_terms-returns-in-Ok-clause-tree t c =
     let within : c.loop-i.i < length c.args.ts.now = omega arith in
-    changed_around _ _ _ _ _ _ _ _ within c.index-ts-i.is c.loop-i.invariant.same (there_tree _ _ _ _ c.in-Some.is c.in_ok-first.ensures.tree) c.in_ok-done.ensures c.in_ok-put_changed.ensures.tree
+    changed_around _ _ _ _ _ _ _ _ within c.index-ts-i.is c.loop-i.invariant.same (there_tree _ _ _ _ c.in-Some.is c.in_ok-first.ensures.tree) c.in_ok-done.ensures c.in-Ok.ensures.tree
 
-pub changed_terms-returns-in-Some-clause-changed : goal.changed_terms-returns-in-Some-clause-changed
-changed_terms-returns-in-Some-clause-changed t c = let within : c.loop-i.i < length c.args.ts.now = omega arith in some_there (cost c.args.change.now) _ _ _ _ within c.index-ts-i.is (there_holds _ _ _ c.in-Some.is c.in_ok-first.ensures.changed)
+pub changed_terms-returns-in-Ok-clause-changed : goal.changed_terms-returns-in-Ok-clause-changed
+changed_terms-returns-in-Ok-clause-changed t c = let within : c.loop-i.i < length c.args.ts.now = omega arith in some_there (cost c.args.change.now) _ _ _ _ within c.index-ts-i.is (there_holds _ _ _ c.in-Some.is c.in_ok-first.ensures.changed)
 
-pub changed_terms-returns-in-Some-clause-made : goal.changed_terms-returns-in-Some-clause-made
-changed_terms-returns-in-Some-clause-made t c = let within : c.loop-i.i < length c.args.ts.now = omega arith in rest_made (remade_nodes (cost c.args.change.now)) _ _ _ _ _ _ _ _ within c.index-ts-i.is c.loop-i.invariant.made c.changed_term.ensures.made c.put_changed.ensures.made
+pub changed_terms-returns-in-Ok-clause-made : goal.changed_terms-returns-in-Ok-clause-made
+changed_terms-returns-in-Ok-clause-made t c = let within : c.loop-i.i < length c.args.ts.now = omega arith in rest_made (remade_nodes (cost c.args.change.now)) _ _ _ _ _ _ _ _ within c.index-ts-i.is c.loop-i.invariant.made c.changed_term.ensures.made c.put_changed.ensures.made
 
 pub changed_terms-loop-i-preserved : goal.changed_terms-loop-i-preserved
 changed_terms-loop-i-preserved t c =

@@ -1,14 +1,14 @@
 use Rattle.std.proofs.Common.{◌≡◌, false, refl, true}
 use Rattle.syn_term.specs.Bank.{Extends-refl, Extends-trans}
 use Rattle.syn_unify.proofs.Loops.{begins, binds_none, next_less, next_none, next_reached, rest_belong, taken_sorted}
-use Rattle.syn_unify.proofs.solving.solve.Goals as goal
+use Rattle.syn_unify.proofs.solving.take_apart.Goals as goal
 
 pub loop-pair-init : goal.loop-pair-init
 loop-pair-init c = record {
-  reached = begins _ _ _ c.new-bound.ensures c.requires.sorted;
+  reached = begins _ _ _ c.requires.none c.requires.sorted;
   same = refl;
   extends = Extends-refl _;
-  own = binds_none _ _ c.new-bound.ensures;
+  own = binds_none _ _ c.requires.none;
   left = c.requires.belongs;
 }
 
