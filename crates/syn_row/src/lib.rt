@@ -6,6 +6,7 @@
 mod direction;
 mod guarding;
 mod guards;
+mod joining;
 mod limits;
 mod normalizing;
 mod occurrences;
@@ -17,6 +18,7 @@ mod weighing;
 pub use direction::Dir;
 pub use guarding::{call_guards, guard};
 pub use guards::GuardRule;
+pub use joining::{chosen, guarded, joined, joined_side};
 pub use limits::{ROW_DEPTH, ROW_NODES, is_within};
 pub use normalizing::canonical;
 pub use plain::is_plain_row;
