@@ -152,7 +152,7 @@ pub(crate) fn changed_terms(
 {
     for i in 0..ts.len() {
         if let Some(first) = changed_term(alloc, bank, syms, change, &ts[i])? {
-            let mut done = begun(alloc, &ts[..i], first)?;
+            let mut done = begun(alloc, &ts[..i], first, ts.len())?;
             return match put_changed(alloc, bank, syms, change, &ts[i + 1..], &mut done) {
                 Ok(()) => Ok(Some(done)),
                 Err(error) => {
@@ -165,19 +165,34 @@ pub(crate) fn changed_terms(
     Ok(None)
 }
 
-/// The terms once more, and one behind them.
-fn begun(alloc: Global, ts: &[Term], last: Term) -> Result<Items<Term>, NoMemory>
+/// An empty list with room for so many terms, so that these take one request for memory.
+fn with_room(alloc: Global, room: usize) -> Result<Items<Term>, NoMemory>
+    ensures { IfOk result (λ list. list ≡ []) }
+{
+    match Vec::with_capacity(alloc, room) {
+        Ok(list) => Ok(Items::from_vec(list)),
+        Err(_) => Err(NoMemory),
+    }
+}
+
+/// The terms once more, and one behind them, in a list with room for so many.
+fn begun(alloc: Global, ts: &[Term], last: Term, room: usize) -> Result<Items<Term>, NoMemory>
     ensures { IfOk result (λ done. done ≡ ts.now ++ last ∷ []) }
 {
-    let mut done = Items::new(alloc);
-    match put_again(ts, &mut done) {
-        Ok(()) => {
-            done.push(last)?;
-            Ok(done)
-        }
+    match with_room(alloc, room) {
+        Ok(mut done) => match put_again(ts, &mut done) {
+            Ok(()) => {
+                done.push(last)?;
+                Ok(done)
+            }
+            Err(error) => {
+                drop(last);
+                drop(done);
+                Err(error)
+            }
+        },
         Err(error) => {
             drop(last);
-            drop(done);
             Err(error)
         }
     }
@@ -264,7 +279,7 @@ pub(crate) fn whole_terms(
     ensures extends { Extends bank.old bank.new }
     ensures belongs { IfOk result (All (Belongs bank.new)) }
 {
-    let mut done = Items::new(alloc);
+    let mut done = with_room(alloc, ts.len())?;
     match put_changed(alloc, bank, syms, change, ts, &mut done) {
         Ok(()) => Ok(done),
         Err(error) => {
