@@ -1,5 +1,5 @@
 -- The laws of canonical rows.
-use Rattle.std.proofs.Common.{◌≡◌, ◌↔◌, List, [], All, Contains, map, get_or, refl, sym, ◌∙◌, ap}
+use Rattle.std.proofs.Common.{◌≡◌, ◌↔◌, ℕ, List, [], All, Contains, map, get_or, refl, sym, ◌∙◌, ap}
 use Rattle.std.specs.Option.{option_map_or}
 use Rattle.syn_term.specs.declared.sorts.Var.{Var}
 use Rattle.syn_term.specs.Terms.{TermTree, bare, variable_tree}
@@ -23,14 +23,21 @@ use Rattle.syn_row.proofs.Variants.{substituted-along, variant_vars, variants-on
 abbrev Any : TermTree → Type 0
 Any t = Unit {0}
 
--- the numbering of a row renames its variables
-unfoldable pub numbering_renames : (r : RowTree) → IsRenaming (row_vars r) (numbering r)
-numbering_renames r = record {
-  to = numbered 1 (first_occurrences (row_vars r));
-  is = λ v c. ap bare (image_numbered 1 (first_occurrences (row_vars r)) v) ∙ bare-variable (numbered 1 (first_occurrences (row_vars r)) v);
-  sorts = λ v c. sort_numbered 1 (first_occurrences (row_vars r)) v;
-  one = λ v w c d e. one_number 1 (first_occurrences (row_vars r)) v w (occurs_first (row_vars r) v c) (occurs_first (row_vars r) w d) (ap (λ (z : Var). z.number) e);
+-- what gives the variables of a row the numbers from n on, in the order in which they first occur
+abbrev pub numbering_from : ℕ → RowTree → Substitution
+numbering_from n r = numbered_from n (first_occurrences (row_vars r))
+
+-- it renames them
+unfoldable pub numbers_rename : (n : ℕ) (r : RowTree) → IsRenaming (row_vars r) (numbering_from n r)
+numbers_rename n r = record {
+  to = numbered n (first_occurrences (row_vars r));
+  is = λ v c. ap bare (image_numbered n (first_occurrences (row_vars r)) v) ∙ bare-variable (numbered n (first_occurrences (row_vars r)) v);
+  sorts = λ v c. sort_numbered n (first_occurrences (row_vars r)) v;
+  one = λ v w c d e. one_number n (first_occurrences (row_vars r)) v w (occurs_first (row_vars r) v c) (occurs_first (row_vars r) w d) (ap (λ (z : Var). z.number) e);
 }
+
+pub numbering_renames : (r : RowTree) → IsRenaming (row_vars r) (numbering r)
+numbering_renames r = numbers_rename 1 r
 
 -- so a row and the row renumbered are variants
 pub variants_renumbered : (r : RowTree) → AreVariants r (renumbered_row r)

@@ -38,23 +38,23 @@ canonical_laws = record {
 pub ruleset canonical_rules = (Extends-refl, Extends-trans, canonical_laws)
 
 -- a row put together of its formula and its output renumbered
-module _ (vars : List Var) where
-  form_is : (f : FormTree) → renumbered_form vars f ≡ substituted_form (numbered_from 1 vars) f
-  form_is = changes_alike (on_terms (renumbered vars)) (substituted_form (numbered_from 1 vars)) (renumbered vars) (renumbered vars) (changes_on (renumbered vars)) (changes_substituted (numbered_from 1 vars)) (λ t. refl)
+module _ (n : ℕ) (vars : List Var) where
+  form_is : (f : FormTree) → renumbered_form n vars f ≡ substituted_form (numbered_from n vars) f
+  form_is = changes_alike (on_terms (renumbered n vars)) (substituted_form (numbered_from n vars)) (renumbered n vars) (renumbered n vars) (changes_on (renumbered n vars)) (changes_substituted (numbered_from n vars)) (λ t. refl)
 
-  out_is : (o : OutTree) → renumbered_out vars o ≡ substituted_out (numbered_from 1 vars) o
-  out_is = out_changes_alike (on_terms (renumbered vars)) (substituted_form (numbered_from 1 vars)) (renumbered vars) (renumbered vars) (changes_on (renumbered vars)) (changes_substituted (numbered_from 1 vars))
-      (out_on_terms (renumbered vars)) (substituted_out (numbered_from 1 vars)) (out_changes_on (renumbered vars)) (out_changes_substituted (numbered_from 1 vars)) (λ t. refl)
+  out_is : (o : OutTree) → renumbered_out n vars o ≡ substituted_out (numbered_from n vars) o
+  out_is = out_changes_alike (on_terms (renumbered n vars)) (substituted_form (numbered_from n vars)) (renumbered n vars) (renumbered n vars) (changes_on (renumbered n vars)) (changes_substituted (numbered_from n vars))
+      (out_on_terms (renumbered n vars)) (substituted_out (numbered_from n vars)) (out_changes_on (renumbered n vars)) (out_changes_substituted (numbered_from n vars)) (λ t. refl)
 
-  option_is : (o : Option OutTree) → option_map (renumbered_out vars) o ≡ option_map (substituted_out (numbered_from 1 vars)) o
+  option_is : (o : Option OutTree) → option_map (renumbered_out n vars) o ≡ option_map (substituted_out (numbered_from n vars)) o
   option_is None = refl
   option_is (Some o) = ap Some (out_is o)
 
-  pub row_made : (r : RowTree) (f : FormTree) (o : Option OutTree) → bare_form f ≡ bare_form (renumbered_form vars r.form) → option_map bare_out o ≡ option_map bare_out (option_map (renumbered_out vars) r.out)
-      → bare_row (record { side = r.side; form = f; out = o }) ≡ bare_row (substituted_row (numbered_from 1 vars) r)
+  pub row_made : (r : RowTree) (f : FormTree) (o : Option OutTree) → bare_form f ≡ bare_form (renumbered_form n vars r.form) → option_map bare_out o ≡ option_map bare_out (option_map (renumbered_out n vars) r.out)
+      → bare_row (record { side = r.side; form = f; out = o }) ≡ bare_row (substituted_row (numbered_from n vars) r)
   row_made r f o e h =
-      let a : bare_form f ≡ bare_form (substituted_form (numbered_from 1 vars) r.form) = e ∙ ap bare_form (form_is r.form) in
-      let b : option_map bare_out o ≡ option_map bare_out (option_map (substituted_out (numbered_from 1 vars)) r.out) = h ∙ ap (option_map bare_out) (option_is r.out) in cc
+      let a : bare_form f ≡ bare_form (substituted_form (numbered_from n vars) r.form) = e ∙ ap bare_form (form_is r.form) in
+      let b : option_map bare_out o ≡ option_map bare_out (option_map (substituted_out (numbered_from n vars)) r.out) = h ∙ ap (option_map bare_out) (option_is r.out) in cc
 
 -- no more nodes are made than the row has
 pub made_form : (r : RowTree) (m n : ℕ) → n ≤ m + terms_size r.form → n ≤ m + row_nodes r
@@ -88,7 +88,7 @@ module _ (r s q : RowTree) (is : s ≡ simplified_row r) (made : bare_row q ≡ 
   end_row h = (subst IsWithinRow is h, canonical_is)
 
   pub end_made : (m n : ℕ) → n ≤ m + row_nodes s → n ≤ m + row_nodes q
-  end_made m n h = let e : row_nodes q ≡ row_nodes s = nodes-along q (renumbered_row s) made ∙ row_nodes-renumbered s in omega arith
+  end_made m n h = let e : row_nodes q ≡ row_nodes s = nodes-along q (renumbered_row s) made ∙ row_nodes-renumbered s 1 in omega arith
 
   pub end_plain : (table : SymbolTable) → IsPlain table s → IsPlain table q
   end_plain table h = plain_along table q (renumbered_row s) made (plain_renumbered table s h)

@@ -19,6 +19,7 @@ pub mod CanonicalRows
 pub mod RowPlain
 pub mod RowSizes
 pub mod Ends
+pub mod KeptApart
 pub mod Agreeing
 pub mod Taking
 pub mod General

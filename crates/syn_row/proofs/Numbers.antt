@@ -1,6 +1,5 @@
 -- The numbers that variables get: each is a variable, of its own sort, and where the variable stands among those that are numbered.
-use Rattle.std.proofs.Common.{◌≡◌, ◌⊎◌, inl, inr, ℕ, ◌+◌, ◌<◌, ◌≤◌, Bool, true, false, cond, List, [], ◌∷◌, Contains, length, drop, get_or, refl, sym, ◌∙◌, ap, arith, rules}
-use Rattle.std.proofs.lemmas.List.{drop_all, drop_more}
+use Rattle.std.proofs.Common.{◌≡◌, ◌⊎◌, inl, inr, ℕ, ◌+◌, ◌<◌, ◌≤◌, Bool, true, false, cond, List, [], ◌∷◌, Contains, length, refl, sym, ◌∙◌, ap, arith, rules}
 use Rattle.syn_term.specs.declared.sorts.Var.{Var}
 use Rattle.syn_term.specs.declared.term.Place.{Place}
 use Rattle.syn_term.specs.declared.term.Node.{out-Node}
@@ -46,6 +45,16 @@ number_from n (u ∷ us) v c = go (same_var u v) refl (Contains-cons_cases u us 
     go false e (inl k) h = absurd (let m = same_var_from u v k in let f : true ≡ false = sym m ∙ e in cc)
     go false e (inr k) h = let m = h k in omega arith
 
+-- and one below n and the number of variables
+pub number_below : (n : ℕ) (us : List Var) (v : Var) → Contains us v → (numbered n us v).number < n + length us
+number_below n [] v c = absurd (none_in_nil v c)
+number_below n (u ∷ us) v c = go (same_var u v) refl (Contains-cons_cases u us v c) (number_below (n + 1) us v)
+  where
+    go : (b : Bool) → same_var u v ≡ b → (u ≡ v) ⊎ Contains us v → (Contains us v → (numbered (n + 1) us v).number < n + 1 + length us) → (cond b (the_var n u.sort) (numbered (n + 1) us v)).number < n + length (u ∷ us)
+    go true e d h = omega arith
+    go false e (inl k) h = absurd (let m = same_var_from u v k in let f : true ≡ false = sym m ∙ e in cc)
+    go false e (inr k) h = let m = h k in omega arith
+
 -- two variables of the list that get one number are one
 pub one_number : (n : ℕ) (us : List Var) (v w : Var) → Contains us v → Contains us w → (numbered n us v).number ≡ (numbered n us w).number → v ≡ w
 one_number n [] v w c d e = absurd (none_in_nil v c)
@@ -72,18 +81,3 @@ variable-injective v w e = let h : Node-F.Var nowhere v ≡ Node-F.Var nowhere w
 
 pub bare-variable : (v : Var) → bare (variable_tree v) ≡ variable_tree v
 bare-variable v = fold-Var bare_step nowhere v
-
--- in the search for the number of a variable: the first ones are others
-pub search_next : (vars : List Var) (i : ℕ) (d u v : Var) → i < length vars → u ≡ get_or vars i d → same_var u v ≡ false → image (numbered_from 1 vars) v ≡ image (numbered_from (i + 1) (drop i vars)) v → image (numbered_from 1 vars) v ≡ image (numbered_from ((i + 1) + 1) (drop (i + 1) vars)) v
-search_next vars i d u v lt is differ h =
-    h ∙ (ap (λ (z : List Var). image (numbered_from (i + 1) z) v) (drop_more vars i d lt ∙ ap (λ (z : Var). z ∷ drop (i + 1) vars) (sym is))
-    ∙ ap (λ (b : Bool). cond b (variable_tree (the_var (i + 1) u.sort)) (image (numbered_from ((i + 1) + 1) (drop (i + 1) vars)) v)) differ)
-
-pub search_found : (vars : List Var) (i : ℕ) (d u v : Var) → i < length vars → u ≡ get_or vars i d → u ≡ v → image (numbered_from 1 vars) v ≡ image (numbered_from (i + 1) (drop i vars)) v → variable_tree (the_var (i + 1) v.sort) ≡ image (numbered_from 1 vars) v
-search_found vars i d u v lt is same h =
-    ap (λ (z : Var). variable_tree (the_var (i + 1) z.sort)) (sym same)
-    ∙ sym (h ∙ (ap (λ (z : List Var). image (numbered_from (i + 1) z) v) (drop_more vars i d lt ∙ ap (λ (z : Var). z ∷ drop (i + 1) vars) (sym is))
-    ∙ ap (λ (b : Bool). cond b (variable_tree (the_var (i + 1) u.sort)) (image (numbered_from ((i + 1) + 1) (drop (i + 1) vars)) v)) (same_var_from u v same)))
-
-pub search_none : (vars : List Var) (i : ℕ) (v : Var) → length vars ≤ i → image (numbered_from 1 vars) v ≡ image (numbered_from (i + 1) (drop i vars)) v → variable_tree v ≡ image (numbered_from 1 vars) v
-search_none vars i v end h = sym (h ∙ ap (λ (z : List Var). image (numbered_from (i + 1) z) v) (drop_all i vars end))

@@ -1,5 +1,5 @@
 -- A row renumbered is plain where the row is, and has as many nodes and is as deep; so is a row that is one with it.
-use Rattle.std.proofs.Common.{◌≡◌, List, Option, None, Some, IfSome, map, refl, sym, ◌∙◌, ap, subst}
+use Rattle.std.proofs.Common.{◌≡◌, ℕ, List, Option, None, Some, IfSome, map, refl, sym, ◌∙◌, ap, subst}
 use Rattle.std.specs.Option.{option_map}
 use Rattle.std.proofs.lemmas.List.Elements.{All-map}
 use Rattle.syn_term.specs.declared.sorts.Var.{Var}
@@ -18,9 +18,9 @@ use Rattle.syn_form.proofs.FormedForms.{term_formed}
 use Rattle.syn_form.proofs.PutInputs.{on_terms-formed}
 use Rattle.syn_form.proofs.SimplifiedPlain.{simplified_row-plain}
 use Rattle.syn_form.proofs.TermNodes.{by_term_cases, node-App, node-Var, parts-App, every-App, every-Var}
-use Rattle.syn_row.specs.Rows.{IsPlain, RowTree, bare_row, canonical_row, first_occurrences, numbered_from, numbering, renumbered_row, row_vars, simplified_row}
+use Rattle.syn_row.specs.Rows.{IsPlain, RowTree, bare_row, canonical_row, first_occurrences, numbered_from, renumbered_row, row_vars, simplified_row, substituted_row}
 use Rattle.syn_row.specs.inner.Renumbering.{renumbered}
-use Rattle.syn_row.proofs.CanonicalRows.{numbering_renames}
+use Rattle.syn_row.proofs.CanonicalRows.{numbering_from, numbers_rename}
 use Rattle.syn_row.proofs.Changes.{changes_alike, changes_on, changes_substituted, out_changes_substituted}
 use Rattle.syn_row.proofs.Keeping.{renumbered-App, renumbered-Var, sort_renumbered, sorts_renumbered}
 use Rattle.syn_row.proofs.Numbers.{numbered, one_number, sort_numbered}
@@ -28,39 +28,39 @@ use Rattle.syn_row.proofs.Occurring.{occurs_first}
 use Rattle.syn_row.proofs.Renaming.{comes_from, comes_from_one}
 use Rattle.syn_row.proofs.RowChanges.{row_vars-along, row_vars-renamed}
 
-module _ (table : SymbolTable) (vars : List Var) where
+module _ (table : SymbolTable) (n : ℕ) (vars : List Var) where
   -- a term renumbered is sorted
-  sorted_renumbered : (t : TermTree) → IsSorted table t → IsSorted table (renumbered vars t)
-  sorted_renumbered = by_term_cases (λ t. IsSorted table t → IsSorted table (renumbered vars t))
-      (λ p v h. subst (IsSorted table) (sym (renumbered-Var vars p v)) (every-Var (SortedNode table) nowhere (numbered 1 vars v) (subst (IsSort table) (sym (sort_numbered 1 vars v)) (node-Var (SortedNode table) p v h))))
+  sorted_renumbered : (t : TermTree) → IsSorted table t → IsSorted table (renumbered n vars t)
+  sorted_renumbered = by_term_cases (λ t. IsSorted table t → IsSorted table (renumbered n vars t))
+      (λ p v h. subst (IsSorted table) (sym (renumbered-Var n vars p v)) (every-Var (SortedNode table) nowhere (numbered n vars v) (subst (IsSort table) (sym (sort_numbered n vars v)) (node-Var (SortedNode table) p v h))))
       (λ p f args stay h.
-      let n = node-App (SortedNode table) p f args h in
+      let m = node-App (SortedNode table) p f args h in
       let k = parts-App (SortedNode table) p f args h in
-      let applied : IsApplication table f (map (renumbered vars) args) = record { sym = n.0.sym; is = n.0.is; no_relation = n.0.no_relation; no_order = n.0.no_order; sorts = sorts_renumbered vars table args ∙ n.0.sorts } in
-      subst (IsSorted table) (sym (renumbered-App vars p f args)) (every-App (SortedNode table) nowhere f (map (renumbered vars) args) (applied, n.1) (All-map (IsSorted table) (renumbered vars) args (λ i d lt. stay i d lt (k i d lt)))))
+      let applied : IsApplication table f (map (renumbered n vars) args) = record { sym = m.0.sym; is = m.0.is; no_relation = m.0.no_relation; no_order = m.0.no_order; sorts = sorts_renumbered n vars table args ∙ m.0.sorts } in
+      subst (IsSorted table) (sym (renumbered-App n vars p f args)) (every-App (SortedNode table) nowhere f (map (renumbered n vars) args) (applied, m.1) (All-map (IsSorted table) (renumbered n vars) args (λ i d lt. stay i d lt (k i d lt)))))
 
-  formed_renumbered : (f : FormTree) → IsFormed table f → IsFormed table (substituted_form (numbered_from 1 vars) f)
+  formed_renumbered : (f : FormTree) → IsFormed table f → IsFormed table (substituted_form (numbered_from n vars) f)
   formed_renumbered f h =
-      subst (IsFormed table) (changes_alike (on_terms (renumbered vars)) (substituted_form (numbered_from 1 vars)) (renumbered vars) (renumbered vars) (changes_on (renumbered vars)) (changes_substituted (numbered_from 1 vars)) (λ t. refl) f)
-      (on_terms-formed table (renumbered vars) (sort_renumbered vars table) sorted_renumbered f h)
+      subst (IsFormed table) (changes_alike (on_terms (renumbered n vars)) (substituted_form (numbered_from n vars)) (renumbered n vars) (renumbered n vars) (changes_on (renumbered n vars)) (changes_substituted (numbered_from n vars)) (λ t. refl) f)
+      (on_terms-formed table (renumbered n vars) (sort_renumbered n vars table) sorted_renumbered f h)
 
   abbrev Q : OutTree → OutTree
-  Q = substituted_out (numbered_from 1 vars)
+  Q = substituted_out (numbered_from n vars)
 
   given_renumbered : (o : OutTree) → given_sort table (Q o) ≡ given_sort table o
   given_renumbered = by_out_cases (λ o. given_sort table (Q o) ≡ given_sort table o) record {
-    at_give = λ t. ap (given_sort table) ((out_changes_substituted (numbered_from 1 vars)).at_give t) ∙ (fold-Give (given_sort_step table) (renumbered vars t) ∙ (sort_renumbered vars table t ∙ sym (fold-Give (given_sort_step table) t)));
-    at_if = λ f u v h k. ap (given_sort table) ((out_changes_substituted (numbered_from 1 vars)).at_if f u v) ∙ (fold-If (given_sort_step table) (substituted_form (numbered_from 1 vars) f) (Q u) (Q v) ∙ (h ∙ sym (fold-If (given_sort_step table) f u v)));
+    at_give = λ t. ap (given_sort table) ((out_changes_substituted (numbered_from n vars)).at_give t) ∙ (fold-Give (given_sort_step table) (renumbered n vars t) ∙ (sort_renumbered n vars table t ∙ sym (fold-Give (given_sort_step table) t)));
+    at_if = λ f u v h k. ap (given_sort table) ((out_changes_substituted (numbered_from n vars)).at_if f u v) ∙ (fold-If (given_sort_step table) (substituted_form (numbered_from n vars) f) (Q u) (Q v) ∙ (h ∙ sym (fold-If (given_sort_step table) f u v)));
   }
 
   out_renumbered : (o : OutTree) → IsFormedOut table o → IsFormedOut table (Q o)
   out_renumbered = by_out_cases (λ o. IsFormedOut table o → IsFormedOut table (Q o)) record {
-    at_give = λ t h. subst (IsFormedOut table) (sym ((out_changes_substituted (numbered_from 1 vars)).at_give t)) (every-Give (PlainOutNode table) (renumbered vars t) (sorted_renumbered t ((term_formed table (out.Give t) t refl).0 h)));
+    at_give = λ t h. subst (IsFormedOut table) (sym ((out_changes_substituted (numbered_from n vars)).at_give t)) (every-Give (PlainOutNode table) (renumbered n vars t) (sorted_renumbered t ((term_formed table (out.Give t) t refl).0 h)));
     at_if = λ f u v h k l.
-        let n = node-If (PlainOutNode table) f u v l in
+        let m = node-If (PlainOutNode table) f u v l in
         let p = parts-If (PlainOutNode table) f u v l in
-        subst (IsFormedOut table) (sym ((out_changes_substituted (numbered_from 1 vars)).at_if f u v))
-        (every-If (PlainOutNode table) (substituted_form (numbered_from 1 vars) f) (Q u) (Q v) (formed_renumbered f n.0, given_renumbered u ∙ (n.1 ∙ sym (given_renumbered v))) (h p.0) (k p.1));
+        subst (IsFormedOut table) (sym ((out_changes_substituted (numbered_from n vars)).at_if f u v))
+        (every-If (PlainOutNode table) (substituted_form (numbered_from n vars) f) (Q u) (Q v) (formed_renumbered f m.0, given_renumbered u ∙ (m.1 ∙ sym (given_renumbered v))) (h p.0) (k p.1));
   }
 
   option_renumbered : (o : Option OutTree) → IfSome o (IsFormedOut table) → IfSome (option_map Q o) (IsFormedOut table)
@@ -68,26 +68,29 @@ module _ (table : SymbolTable) (vars : List Var) where
   option_renumbered (Some o) h = out_renumbered o h
 
 -- no number has two sorts once a row is renumbered
-sorts_each : (r : RowTree) → HasOneSortEach (row_vars (renumbered_row r))
-unfolding numbering_renames
-sorts_each r = subst HasOneSortEach (sym (row_vars-renamed (numbering r) r (numbering_renames r))) each
+sorts_each : (n : ℕ) (r : RowTree) → HasOneSortEach (row_vars (substituted_row (numbering_from n r) r))
+unfolding numbers_rename
+sorts_each n r = subst HasOneSortEach (sym (row_vars-renamed (numbering_from n r) r (numbers_rename n r))) each
   where
-    each : HasOneSortEach (map (numbered 1 (first_occurrences (row_vars r))) (row_vars r))
+    each : HasOneSortEach (map (numbered n (first_occurrences (row_vars r))) (row_vars r))
     each v w c d e =
-        let to = numbered 1 (first_occurrences (row_vars r)) in
+        let to = numbered n (first_occurrences (row_vars r)) in
         let p = comes_from_one to (row_vars r) v c in
         let q = comes_from_one to (row_vars r) w d in
         let x = comes_from to (row_vars r) v in
         let y = comes_from to (row_vars r) w in
-        let same : x ≡ y = one_number 1 (first_occurrences (row_vars r)) x y (occurs_first (row_vars r) x p.0) (occurs_first (row_vars r) y q.0) (ap (λ (z : Var). z.number) p.1 ∙ (e ∙ ap (λ (z : Var). z.number) (sym q.1))) in
+        let same : x ≡ y = one_number n (first_occurrences (row_vars r)) x y (occurs_first (row_vars r) x p.0) (occurs_first (row_vars r) y q.0) (ap (λ (z : Var). z.number) p.1 ∙ (e ∙ ap (λ (z : Var). z.number) (sym q.1))) in
         ap (λ (z : Var). z.sort) (sym p.1 ∙ (ap to same ∙ q.1))
 
-pub plain_renumbered : (table : SymbolTable) (r : RowTree) → IsPlain table r → IsPlain table (renumbered_row r)
-plain_renumbered table r h = record {
-  form = formed_renumbered table (first_occurrences (row_vars r)) r.form h.form;
-  out = option_renumbered table (first_occurrences (row_vars r)) r.out h.out;
-  sorts = sorts_each r;
+pub plain_numbered : (table : SymbolTable) (n : ℕ) (r : RowTree) → IsPlain table r → IsPlain table (substituted_row (numbering_from n r) r)
+plain_numbered table n r h = record {
+  form = formed_renumbered table n (first_occurrences (row_vars r)) r.form h.form;
+  out = option_renumbered table n (first_occurrences (row_vars r)) r.out h.out;
+  sorts = sorts_each n r;
 }
+
+pub plain_renumbered : (table : SymbolTable) (r : RowTree) → IsPlain table r → IsPlain table (renumbered_row r)
+plain_renumbered table r h = plain_numbered table 1 r h
 
 pub plain_simplified : (table : SymbolTable) (r : RowTree) → IsPlain table r → IsPlain table (simplified_row r)
 plain_simplified table r h = simplified_row-plain table r.form r.out h

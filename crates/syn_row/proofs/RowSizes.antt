@@ -1,5 +1,5 @@
 -- A change that keeps the nodes and the depth of each term keeps those of a row.
-use Rattle.std.proofs.Common.{◌≡◌, ℕ, ◌+◌, ◌≤◌, ◌<◌, ◌^◌, max, List, [], ◌∷◌, Option, None, Some, All, map, sum, get_or, length, length-append, refl, sym, ◌∙◌, ap, arith}
+use Rattle.std.proofs.Common.{◌≡◌, ℕ, ◌+◌, ◌≤◌, max, List, [], ◌∷◌, Option, None, Some, All, map, sum, get_or, length, length-append, refl, sym, ◌∙◌, ap, arith}
 use Rattle.std.specs.Option.{option_map, option_map_or}
 use Rattle.std.proofs.lemmas.List.Elements.{All-head, All-tail}
 use Rattle.syn_term.specs.declared.sorts.Var.{Var}
@@ -11,7 +11,7 @@ use Rattle.syn_form.specs.Trees.{FormTree, OutTree, bare_form, bare_out, form_no
 use Rattle.syn_form.proofs.Equations.{form_nodes-Atom, form_nodes-Equal, form_nodes-Not, form_nodes-And, form_nodes-Or, form_nodes-Implies, form_depth-Atom, form_depth-Equal, form_depth-Not, form_depth-And, form_depth-Or, form_depth-Implies, out_nodes-Give, out_nodes-If, out_depth-Give, out_depth-If}
 use Rattle.syn_form.proofs.Inductions.{by_form_cases, by_out_cases}
 use Rattle.syn_form.proofs.TermNodes.{by_term_cases}
-use Rattle.syn_row.specs.Rows.{IsWithinRow, RowTree, bare_row, first_occurrences, numbered_from, renumbered_row, row_depth, row_nodes, row_vars}
+use Rattle.syn_row.specs.Rows.{IsWithinRow, RowTree, bare_row, first_occurrences, numbered_from, renumbered_row, row_depth, row_nodes, row_vars, substituted_row}
 use Rattle.syn_row.specs.inner.Renumbering.{renumbered}
 use Rattle.syn_row.proofs.Changes.{Changes, OutChanges, changes_bare, changes_substituted, out_changes_bare, out_changes_substituted}
 use Rattle.syn_row.proofs.Keeping.{renumbered-App, renumbered-Var}
@@ -20,7 +20,7 @@ use Rattle.syn_row.proofs.Occurring.{few_occurrences}
 use Rattle.syn_row.proofs.RowChanges.{changed_row}
 use Rattle.syn_row.proofs.Sizes.{form_few, out_few}
 
-nodes_of_chain : (j : Junction) (all : List FormTree) → form_nodes (chain j all) ≡ 1 + sum (map form_nodes all)
+pub nodes_of_chain : (j : Junction) (all : List FormTree) → form_nodes (chain j all) ≡ 1 + sum (map form_nodes all)
 nodes_of_chain conjunction all = form_nodes-And all
 nodes_of_chain disjunction all = form_nodes-Or all
 
@@ -87,16 +87,16 @@ nodes-bare = fold-bare nodes_step (λ p v. refl) (λ p f xs. refl)
 depth-bare : (t : TermTree) → depth_of (bare t) ≡ depth_of t
 depth-bare = fold-bare depth_step (λ p v. refl) (λ p f xs. refl)
 
-module _ (vars : List Var) where
-  nodes-renumbered : (t : TermTree) → nodes (renumbered vars t) ≡ nodes t
-  nodes-renumbered = by_term_cases (λ t. nodes (renumbered vars t) ≡ nodes t)
-      (λ p v. ap nodes (renumbered-Var vars p v) ∙ (fold-Var nodes_step nowhere (numbered 1 vars v) ∙ sym (fold-Var nodes_step p v)))
-      (λ p f args h. ap nodes (renumbered-App vars p f args) ∙ (fold-App nodes_step nowhere f (map (renumbered vars) args) ∙ (ap (λ (z : List ℕ). 1 + sum z) (each_same nodes (renumbered vars) args h) ∙ sym (fold-App nodes_step p f args))))
+module _ (n : ℕ) (vars : List Var) where
+  nodes-renumbered : (t : TermTree) → nodes (renumbered n vars t) ≡ nodes t
+  nodes-renumbered = by_term_cases (λ t. nodes (renumbered n vars t) ≡ nodes t)
+      (λ p v. ap nodes (renumbered-Var n vars p v) ∙ (fold-Var nodes_step nowhere (numbered n vars v) ∙ sym (fold-Var nodes_step p v)))
+      (λ p f args h. ap nodes (renumbered-App n vars p f args) ∙ (fold-App nodes_step nowhere f (map (renumbered n vars) args) ∙ (ap (λ (z : List ℕ). 1 + sum z) (each_same nodes (renumbered n vars) args h) ∙ sym (fold-App nodes_step p f args))))
 
-  depth-renumbered : (t : TermTree) → depth_of (renumbered vars t) ≡ depth_of t
-  depth-renumbered = by_term_cases (λ t. depth_of (renumbered vars t) ≡ depth_of t)
-      (λ p v. ap depth_of (renumbered-Var vars p v) ∙ (fold-Var depth_step nowhere (numbered 1 vars v) ∙ sym (fold-Var depth_step p v)))
-      (λ p f args h. ap depth_of (renumbered-App vars p f args) ∙ (fold-App depth_step nowhere f (map (renumbered vars) args) ∙ (ap (λ (z : List ℕ). 1 + greatest z) (each_same depth_of (renumbered vars) args h) ∙ sym (fold-App depth_step p f args))))
+  depth-renumbered : (t : TermTree) → depth_of (renumbered n vars t) ≡ depth_of t
+  depth-renumbered = by_term_cases (λ t. depth_of (renumbered n vars t) ≡ depth_of t)
+      (λ p v. ap depth_of (renumbered-Var n vars p v) ∙ (fold-Var depth_step nowhere (numbered n vars v) ∙ sym (fold-Var depth_step p v)))
+      (λ p f args h. ap depth_of (renumbered-App n vars p f args) ∙ (fold-App depth_step nowhere f (map (renumbered n vars) args) ∙ (ap (λ (z : List ℕ). 1 + greatest z) (each_same depth_of (renumbered n vars) args h) ∙ sym (fold-App depth_step p f args))))
 
 -- rows that are one, and a row renumbered, have as many nodes and are as deep
 pub nodes-along : (r s : RowTree) → bare_row r ≡ bare_row s → row_nodes r ≡ row_nodes s
@@ -109,29 +109,28 @@ module _ (r : RowTree) where
   abbrev us : List Var
   us = first_occurrences (row_vars r)
 
-  pub row_nodes-renumbered : row_nodes (renumbered_row r) ≡ row_nodes r
-  row_nodes-renumbered = row_nodes-same (substituted_form (numbered_from 1 us)) (substituted (numbered_from 1 us)) (changes_substituted (numbered_from 1 us)) (substituted_out (numbered_from 1 us)) (out_changes_substituted (numbered_from 1 us)) (nodes-renumbered us) (depth-renumbered us) r
+  pub row_nodes-renumbered : (n : ℕ) → row_nodes (substituted_row (numbered_from n us) r) ≡ row_nodes r
+  row_nodes-renumbered n = row_nodes-same (substituted_form (numbered_from n us)) (substituted (numbered_from n us)) (changes_substituted (numbered_from n us)) (substituted_out (numbered_from n us)) (out_changes_substituted (numbered_from n us)) (nodes-renumbered n us) (depth-renumbered n us) r
 
-  pub row_depth-renumbered : row_depth (renumbered_row r) ≡ row_depth r
-  row_depth-renumbered = row_depth-same (substituted_form (numbered_from 1 us)) (substituted (numbered_from 1 us)) (changes_substituted (numbered_from 1 us)) (substituted_out (numbered_from 1 us)) (out_changes_substituted (numbered_from 1 us)) (nodes-renumbered us) (depth-renumbered us) r
+  pub row_depth-renumbered : (n : ℕ) → row_depth (substituted_row (numbered_from n us) r) ≡ row_depth r
+  row_depth-renumbered n = row_depth-same (substituted_form (numbered_from n us)) (substituted (numbered_from n us)) (changes_substituted (numbered_from n us)) (substituted_out (numbered_from n us)) (out_changes_substituted (numbered_from n us)) (nodes-renumbered n us) (depth-renumbered n us) r
 
   option_few : (o : Option OutTree) → length (option_map_or out_vars o []) ≤ option_map_or out_nodes o 0
   option_few None = omega arith
   option_few (Some o) = out_few o
 
-  -- a row within the limit has few enough variables that their numbers fit
-  pub few_numbers : IsWithinRow r → length us < 2 ^ 32
-  few_numbers h =
+  -- a row has no more variables than nodes
+  pub few_vars : length us ≤ row_nodes r
+  few_vars =
       let a = few_occurrences (row_vars r) in
       let b = length-append (form_vars r.form) (option_map_or out_vars r.out []) in
       let c = form_few r.form in
-      let d = option_few r.out in
-      let e = h.few in omega arith
+      let d = option_few r.out in omega arith
 
 -- what is within the limit once it is renumbered
 pub within-along : (r s : RowTree) → bare_row s ≡ bare_row (renumbered_row r) → IsWithinRow r → IsWithinRow s
 within-along r s e h =
-    let n : row_nodes s ≡ row_nodes r = nodes-along s (renumbered_row r) e ∙ row_nodes-renumbered r in
-    let d : row_depth s ≡ row_depth r = depth-along s (renumbered_row r) e ∙ row_depth-renumbered r in
+    let n : row_nodes s ≡ row_nodes r = nodes-along s (renumbered_row r) e ∙ row_nodes-renumbered r 1 in
+    let d : row_depth s ≡ row_depth r = depth-along s (renumbered_row r) e ∙ row_depth-renumbered r 1 in
     let few = h.few in let shallow = h.shallow in
     record { few = omega arith; shallow = omega arith }

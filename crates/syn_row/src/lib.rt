@@ -3,6 +3,7 @@
 //! all variants of a simplified row have in common. The calls of a symbol that stand in terms, and their guards.
 #![tactic(auto)]
 
+mod apart;
 mod calls;
 mod direction;
 mod giving;
@@ -17,6 +18,7 @@ mod renumbering;
 mod rows;
 mod weighing;
 
+pub use apart::kept_apart;
 pub use calls::{put_calls, put_form_calls};
 pub use direction::Dir;
 pub use giving::{Weighed, given};

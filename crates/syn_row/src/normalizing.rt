@@ -9,8 +9,7 @@ ghost use Rattle.syn_row.specs.Rows.{IsPlain, IsSimplified, IsWithinRow, bare_ro
 ghost use Rattle.syn_row.specs.RowLaws.{CanonicalLaws};
 
 use crate::limits::is_within;
-use crate::occurrences::occurrences;
-use crate::renumbering::renumber_row;
+use crate::renumbering::renumbered_from;
 use crate::rows::Row;
 use std::alloc::Global;
 use syn_form::{Out, simplify, simplify_out};
@@ -60,10 +59,7 @@ fn renumber(alloc: Global, bank: &mut Bank, syms: &Symbols, row: &Row) -> Result
     ensures extends { Extends bank.old bank.new }
     ensures belongs { IfOk result (λ r. All (Belongs bank.new) (row_terms r)) }
 {
-    let vars = occurrences(alloc, row)?;
-    let made = renumber_row(bank, alloc, syms, vars.as_slice(), row);
-    drop(vars);
-    made
+    renumbered_from(alloc, bank, syms, 1, row)
 }
 
 /// The canonical row: the row simplified, and then its variables numbered 1, 2, 3 .. in the order in

@@ -99,7 +99,7 @@ renumber_forms-returns-in_err-push-clause-made t c = count_within terms_size _ _
 
 pub renumber_forms-loop-f-preserved : goal.renumber_forms-loop-f-preserved
 renumber_forms-loop-f-preserved t c = record {
-  tree = made_more bare_form (renumbered_form c.args.vars.now) _ _ _ _ _ _ _ c.loop-f-test.true c.f-item.is c.loop-f.invariant.tree c.in_ok-renumber_form.ensures.tree c.in_ok-push.ensures.ok;
+  tree = made_more bare_form (renumbered_form c.args.first c.args.vars.now) _ _ _ _ _ _ _ c.loop-f-test.true c.f-item.is c.loop-f.invariant.tree c.in_ok-renumber_form.ensures.tree c.in_ok-push.ensures.ok;
   made = count_more terms_size _ _ _ _ _ _ _ c.loop-f-test.true c.f-item.is c.loop-f.invariant.made c.renumber_form.ensures.made;
   extends = Extends-trans _ _ _ c.loop-f.invariant.extends c.renumber_form.ensures.extends;
   belongs = terms_more _ _ _ _ _ c.renumber_form.ensures.extends c.loop-f.invariant.belongs c.in_ok-renumber_form.ensures.belongs c.in_ok-push.ensures.ok;

@@ -19,7 +19,7 @@ abbrev pub decreases-renumber_forms : goal.decreases-renumber_forms
 decreases-renumber_forms l = 3 * sum (map form_nodes l.all.now) + 1
 
 pub record Kept (l : goal.Live-renumber_forms-loop-f) : Type 0 where
-  pub tree : map bare_form l.done ≡ map bare_form (map (renumbered_form l.vars) (take l.f-index l.all))
+  pub tree : map bare_form l.done ≡ map bare_form (map (renumbered_form l.first l.vars) (take l.f-index l.all))
   pub made : l.bank.made ≤ l.fn.bank.made + sum (map terms_size (take l.f-index l.all))
   pub extends : Extends l.fn.bank l.bank
   pub belongs : All (Belongs l.bank) (terms_of l.done)

@@ -10,4 +10,4 @@ abbrev pub decreases-keeps_terms : goal.decreases-keeps_terms
 decreases-keeps_terms l = 2 * sum (map nodes l.terms.now) + 1
 
 abbrev pub invariant-keeps_terms-loop-t : goal.invariant-keeps_terms-loop-t
-invariant-keeps_terms-loop-t l = map (λ t. bare (renumbered l.vars t)) (take l.t-index l.terms) ≡ map bare (take l.t-index l.terms)
+invariant-keeps_terms-loop-t l = map (λ t. bare (renumbered l.first l.vars t)) (take l.t-index l.terms) ≡ map bare (take l.t-index l.terms)

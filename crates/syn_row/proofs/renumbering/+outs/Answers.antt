@@ -23,14 +23,14 @@ pub renumber_out-returns-in-If-clause-made : goal.renumber_out-returns-in-If-cla
 renumber_out-returns-in-If-clause-made t c = choice_made _ _ _ _ _ _ _ c.in-If.is c.get.ensures c.get-in-If.ensures c.get-in-If-2.ensures _ _ c.renumber_choice.ensures.made
 
 pub renumber_arms-renumber_out-requires-2 : goal.renumber_arms-renumber_out-requires-2
-renumber_arms-renumber_out-requires-2 t c = (omega arith, (c.requires.few, (c.requires.second, all_still _ _ _ c.renumber_out.ensures.extends c.requires.own_second)))
+renumber_arms-renumber_out-requires-2 t c = (omega arith, (c.requires.few, (c.requires.right, all_still _ _ _ c.renumber_out.ensures.extends c.requires.own_right)))
 
 pub renumber_arms-returns-in-Ok-clause-belongs : goal.renumber_arms-returns-in-Ok-clause-belongs
 renumber_arms-returns-in-Ok-clause-belongs t c = (all_still _ _ _ c.renumber_out-2.ensures.extends c.in_ok-u.ensures.belongs, c.in-Ok.ensures.belongs)
 
 pub renumber_choice-renumber_arms-requires : goal.renumber_choice-renumber_arms-requires
 renumber_choice-renumber_arms-requires t c =
-    (omega arith, (c.requires.few, (c.requires.first, (c.requires.second, (all_still _ _ _ c.renumber_form.ensures.extends c.requires.own_first, all_still _ _ _ c.renumber_form.ensures.extends c.requires.own_second)))))
+    (omega arith, (c.requires.few, (c.requires.left, (c.requires.right, (all_still _ _ _ c.renumber_form.ensures.extends c.requires.own_left, all_still _ _ _ c.renumber_form.ensures.extends c.requires.own_right)))))
 
 pub renumber_out-renumber_term-requires-clause-own : goal.renumber_out-renumber_term-requires-clause-own
 renumber_out-renumber_term-requires-clause-own t c = All-head (Belongs _) _ [] (own_given (Belongs _) _ _ c.in-Give.is c.requires.own)

@@ -22,7 +22,7 @@ renumber_term-unreachable-requires t c =
     let is = sym c.get.ensures ∙ c.in-App.is in
     let none : c.in-Ok-None.field-0 ≡ None = cc in
     refused _ _ _ none c.in-Ok-None.ensures.tree
-    (applies_still _ _ _ _ _ _ _ _ is c.as_slice.ensures c.requires.sorted (ap (map bare) c.as_slice-in-App.ensures ∙ c.in_ok-parts-in-App.ensures.tree))
+    (applies_still _ _ _ _ _ _ _ _ _ is c.as_slice.ensures c.requires.sorted (ap (map bare) c.as_slice-in-App.ensures ∙ c.in_ok-parts-in-App.ensures.tree))
 
 pub renumber_terms-renumber_term-requires : goal.renumber_terms-renumber_term-requires
 renumber_terms-renumber_term-requires t c =
@@ -39,7 +39,7 @@ renumber_terms-returns-in_err-push-clause-made t c = count_within nodes _ _ _ _ 
 
 pub renumber_terms-loop-t-preserved : goal.renumber_terms-loop-t-preserved
 renumber_terms-loop-t-preserved t c = record {
-  tree = made_more bare (renumbered c.args.vars.now) _ _ _ _ _ _ _ c.loop-t-test.true c.t-item.is c.loop-t.invariant.tree c.in_ok-renumber_term.ensures.tree c.in_ok-push.ensures.ok;
+  tree = made_more bare (renumbered c.args.first c.args.vars.now) _ _ _ _ _ _ _ c.loop-t-test.true c.t-item.is c.loop-t.invariant.tree c.in_ok-renumber_term.ensures.tree c.in_ok-push.ensures.ok;
   made = count_more nodes _ _ _ _ _ _ _ c.loop-t-test.true c.t-item.is c.loop-t.invariant.made c.renumber_term.ensures.made;
   extends = Extends-trans _ _ _ c.loop-t.invariant.extends c.renumber_term.ensures.extends;
   belongs = belongs_more _ _ _ _ _ c.renumber_term.ensures.extends c.loop-t.invariant.belongs c.in_ok-renumber_term.ensures.belongs c.in_ok-push.ensures.ok;

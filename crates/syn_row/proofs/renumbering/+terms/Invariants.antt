@@ -11,7 +11,7 @@ abbrev pub decreases-renumber_terms : goal.decreases-renumber_terms
 decreases-renumber_terms l = 2 * sum (map nodes l.terms.now) + 1
 
 pub record Kept (l : goal.Live-renumber_terms-loop-t) : Type 0 where
-  pub tree : map bare l.done ≡ map bare (map (renumbered l.vars) (take l.t-index l.terms))
+  pub tree : map bare l.done ≡ map bare (map (renumbered l.first l.vars) (take l.t-index l.terms))
   pub made : l.bank.made ≤ l.fn.bank.made + sum (map nodes (take l.t-index l.terms))
   pub extends : Extends l.fn.bank l.bank
   pub belongs : All (Belongs l.bank) l.done

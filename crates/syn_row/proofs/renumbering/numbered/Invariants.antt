@@ -5,4 +5,4 @@ use Rattle.syn_row.proofs.renumbering.numbered.Given as goal
 
 -- the variable is none of the first ones
 abbrev pub invariant-loop-i : goal.invariant-loop-i
-invariant-loop-i l = image (numbered_from 1 l.vars) l.v ≡ image (numbered_from (l.i + 1) (drop l.i l.vars)) l.v
+invariant-loop-i l = image (numbered_from l.first l.vars) l.v ≡ image (numbered_from (l.first + l.i) (drop l.i l.vars)) l.v

@@ -15,7 +15,7 @@ pub returns-in_err-form-clause-made : goal.returns-in_err-form-clause-made
 returns-in_err-form-clause-made c = made_form c.args.row.now _ _ c.renumber_form.ensures.made
 
 pub returns-in-Ok-clause-tree : goal.returns-in-Ok-clause-tree
-returns-in-Ok-clause-tree c = row_made c.args.vars.now c.args.row.now _ _ c.in_ok-form.ensures.tree c.in-Ok.ensures.tree
+returns-in-Ok-clause-tree c = row_made c.args.first c.args.vars.now c.args.row.now _ _ c.in_ok-form.ensures.tree c.in-Ok.ensures.tree
 
 pub returns-in-Ok-clause-made : goal.returns-in-Ok-clause-made
 returns-in-Ok-clause-made c = made_row c.args.row.now _ _ _ c.renumber_form.ensures.made c.renumber_output.ensures.made
