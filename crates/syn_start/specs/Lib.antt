@@ -1,2 +1,4 @@
 pub mod Definitions
 pub mod Derivations
+pub mod Initial
+pub mod inner
