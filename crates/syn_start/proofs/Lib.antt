@@ -3,3 +3,7 @@ pub mod Growing
 pub mod SameOutputs
 pub mod TheoryClauses
 pub mod Picking
+pub mod MadeAgain
+pub mod ClauseForms
+pub mod RowsOfClauses
+pub mod SpecParts

@@ -6,7 +6,7 @@ use Rattle.syn_model.specs.declared.decl.Decl.TheVariants as decl
 use Rattle.syn_model.specs.Clausal.{heading_after_decl, picked_under}
 use Rattle.syn_model.specs.Declaring.{is_clause}
 use Rattle.syn_start.specs.Initial.{clause_in, clauses_of}
-use Rattle.syn_start.specs.inner.Under.{under_after}
+use Rattle.syn_start.specs.inner.Under.{Counts, under_after}
 
 -- the clauses among the declarations, where it is known whether the first of them would stand under the heading
 abbrev pub clauses_from : List ℕ → Bool → List Decl → List Decl
@@ -39,9 +39,6 @@ opened (y ∷ xs) zero x lt e = ap (λ z. z ∷ xs) (sym e)
 opened (y ∷ xs) (suc i) x lt e =
     let next : suc (i + 1) ≡ suc i + 1 = omega arith in
     opened xs i x (omega (arith, lt)) e ∙ ap (λ z. x ∷ drop z (y ∷ xs)) next
-
-abbrev pub Counts : Bool → Decl → ℕ → Option ℕ → Type 0
-Counts under d left o = MatchOption o ((rest : List Decl) → slice_get ((if under then clause_in d else []) ++ rest) left ≡ Some d) (λ n. (rest : List Decl) → slice_get ((if under then clause_in d else []) ++ rest) left ≡ slice_get rest n)
 
 module _ (name : List ℕ) (under : Bool) (ds : List Decl) (i left : ℕ) (d : Decl) (o : Option Decl) (lt : i < length ds) (at : d ≡ get_or ds i d) (so_far : slice_get (clauses_from name under (drop i ds)) left ≡ o) where
   here : slice_get ((if under then clause_in d else []) ++ clauses_from name (under_after name under d) (drop (i + 1) ds)) left ≡ o

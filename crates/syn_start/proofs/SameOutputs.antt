@@ -94,7 +94,7 @@ module _ (P : TermTree → Type 0) where
   }
 
 -- each item of a list is in it
-all_in : {A : Type 0} (whole xs : List A) → ((x : A) → Contains xs x → Contains whole x) → All (Contains whole) xs
+pub all_in : {A : Type 0} (whole xs : List A) → ((x : A) → Contains xs x → Contains whole x) → All (Contains whole) xs
 all_in whole [] h = All-nil (Contains whole)
 all_in whole (x ∷ xs) h = All-cons (Contains whole) x xs (h x (Contains-head x xs)) (all_in whole xs (λ y c. h y (Contains-tail x xs y c)))
 
@@ -102,7 +102,7 @@ all_in whole (x ∷ xs) h = All-cons (Contains whole) x xs (h x (Contains-head x
 pub sorts_within : (vs ws : List Var) → ((v : Var) → Contains vs v → Contains ws v) → HasOneSortEach ws → HasOneSortEach vs
 sorts_within vs ws sub h = λ v w c d e. h v w (sub v c) (sub w d) e
 
-vars_within : (f : FormTree) (ts : List TermTree) → All (Contains ts) (form_terms f) → HasOneSortEach (flat_map term_vars ts) → HasOneSortEach (form_vars f)
+pub vars_within : (f : FormTree) (ts : List TermTree) → All (Contains ts) (form_terms f) → HasOneSortEach (flat_map term_vars ts) → HasOneSortEach (form_vars f)
 vars_within f ts h = sorts_within (form_vars f) (flat_map term_vars ts) (flat_map_within term_vars (form_terms f) ts (λ x c. All-contains (Contains ts) (form_terms f) x h c))
 
 pub equals_sorts : (t : TermTree) (o : OutTree) → HasOneSortEach (term_vars t ++ out_vars o) → HasOneSortEach (form_vars (equals_output t o))

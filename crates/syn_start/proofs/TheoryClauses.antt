@@ -35,6 +35,8 @@ use Rattle.syn_model.proofs.GrowingTables.{is_table, next_grows, table_next}
 use Rattle.syn_model.proofs.HeadTableLaws.{last_symbol}
 use Rattle.syn_model.proofs.SpecLaws.{spec_table}
 use Rattle.syn_start.specs.Initial.{clause_at, clause_in, clauses_of}
+use Rattle.syn_model.specs.Theories.{TheoryTree}
+use Rattle.syn_start.specs.Starts.{IsStart, StartTree}
 use Rattle.syn_start.specs.inner.Fine.{IsClauseOf, IsFunctionClause, IsRelationClause}
 use Rattle.syn_start.proofs.Growing.{all_sorted_more, applies_more, atom_more, formed_more, given_known, given_more, out_more, result_more}
 use Rattle.syn_start.proofs.SameOutputs.{sorts_within}
@@ -233,9 +235,16 @@ spec_grows ds s is =
     subst (IsPrefix (table_of ds)) (sym (spec_table ds s is)) (IsPrefix-trans (table_of ds) p (with_head (table_of ds) s.head) (IsPrefix-with_symbol (table_of ds) (program_symbol s.head)) (inputs_grow p s.head.inputs))
 
 -- the clause that is found by a name and a number is one of the symbol that is found by the name
-pub clause_is : (ds : List Decl) (s : SpecTree) → IsTheory ds → IsSpec ds s → (name : List ℕ) (k : ℕ) (d : Decl) (f : SymId) → clause_at ds name k ≡ Some d → symbol_of_name (table_of ds) name ≡ Some f → IsClauseOf s.table f d
+clause_is : (ds : List Decl) (s : SpecTree) → IsTheory ds → IsSpec ds s → (name : List ℕ) (k : ℕ) (d : Decl) (f : SymId) → clause_at ds name k ≡ Some d → symbol_of_name (table_of ds) name ≡ Some f → IsClauseOf s.table f d
 clause_is ds s theory is name zero d f e found = absurd (cc)
 clause_is ds s theory is name (suc k) d f e found =
     let h : IsClauseThere (table_of ds) name d = get_all (IsClauseThere (table_of ds) name) (clauses_of ds name) k d e (clauses_there ds theory name) in
     let own = found_symbol (table_of ds) (is_table ds theory) name f h.own h.symbol found h.at h.named in
     clause_more (table_of ds) s.table (spec_grows ds s is) f d (subst (λ (z : SymId). IsClauseOf (table_of ds) z d) own h.fine)
+
+-- the same over the table of a start
+pub clause_fine : (table : SymbolTable) (x : StartTree) (t : TheoryTree) (ds : List Decl) (name : List ℕ) (k : ℕ) (d : Decl) (f : SymId) → table ≡ x.spec.table → IsStart x → t ≡ x.theory → ds ≡ t.decls
+    → clause_at ds name k ≡ Some d → symbol_of_name (table_of x.theory.decls) name ≡ Some f → IsClauseOf table f d
+clause_fine table x t ds name k d f is h same decls at found =
+    let all : ds ≡ x.theory.decls = decls ∙ ap (λ (z : TheoryTree). z.decls) same in
+    subst (λ (z : SymbolTable). IsClauseOf z f d) (sym is) (clause_is x.theory.decls x.spec h.theory h.whole.over name k d f (sym (ap (λ (z : List Decl). clause_at z name k) all) ∙ at) found)
