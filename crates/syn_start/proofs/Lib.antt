@@ -7,3 +7,6 @@ pub mod MadeAgain
 pub mod ClauseForms
 pub mod RowsOfClauses
 pub mod SpecParts
+pub mod WithoutQuantifiers
+pub mod GoalRows
+pub mod Options

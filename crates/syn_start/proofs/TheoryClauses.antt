@@ -243,8 +243,8 @@ clause_is ds s theory is name (suc k) d f e found =
     clause_more (table_of ds) s.table (spec_grows ds s is) f d (subst (λ (z : SymId). IsClauseOf (table_of ds) z d) own h.fine)
 
 -- the same over the table of a start
-pub clause_fine : (table : SymbolTable) (x : StartTree) (t : TheoryTree) (ds : List Decl) (name : List ℕ) (k : ℕ) (d : Decl) (f : SymId) → table ≡ x.spec.table → IsStart x → t ≡ x.theory → ds ≡ t.decls
-    → clause_at ds name k ≡ Some d → symbol_of_name (table_of x.theory.decls) name ≡ Some f → IsClauseOf table f d
-clause_fine table x t ds name k d f is h same decls at found =
+pub clause_fine : (syms : SymbolTable) (x : StartTree) (t : TheoryTree) (ds : List Decl) (name : List ℕ) (k : ℕ) (d : Decl) (f : SymId) → syms ≡ x.spec.table → IsStart x → t ≡ x.theory → ds ≡ t.decls
+    → clause_at ds name k ≡ Some d → symbol_of_name (table_of x.theory.decls) name ≡ Some f → IsClauseOf syms f d
+clause_fine syms x t ds name k d f is h same decls at found =
     let all : ds ≡ x.theory.decls = decls ∙ ap (λ (z : TheoryTree). z.decls) same in
     subst (λ (z : SymbolTable). IsClauseOf z f d) (sym is) (clause_is x.theory.decls x.spec h.theory h.whole.over name k d f (sym (ap (λ (z : List Decl). clause_at z name k) all) ∙ at) found)

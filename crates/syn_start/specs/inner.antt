@@ -1,2 +1,3 @@
 pub mod Fine
+pub mod Goals
 pub mod Under
