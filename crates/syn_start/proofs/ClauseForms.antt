@@ -10,7 +10,7 @@ use Rattle.syn_term.specs.Terms.{TermTree, application, bare, nowhere, sort_of}
 use Rattle.syn_term.proofs.Trees.{bare-App}
 use Rattle.syn_form.specs.declared.trees.Form.TheVariants as form
 use Rattle.syn_form.specs.Plain.{HasOneSortEach, IsPlainForm, IsSorted}
-use Rattle.syn_form.specs.Trees.{FormTree, OutTree, bare_form, form_terms, form_vars, out_vars, term_vars}
+use Rattle.syn_form.specs.Trees.{FormTree, OutTree, bare_form, form_terms, out_vars, term_vars}
 use Rattle.syn_form.proofs.BareFacts.{sorted_bare}
 use Rattle.syn_form.proofs.BareVars.{term_vars_bare}
 use Rattle.syn_form.proofs.Equations.{form_terms-Atom}
@@ -18,7 +18,7 @@ use Rattle.syn_form.proofs.FormedForms.{atom_formed}
 use Rattle.syn_form.proofs.SortedTerms.{application_sorted}
 use Rattle.syn_form.proofs.Sorting.{sort_bare, sort_of-application}
 use Rattle.syn_form.proofs.Variables.{application_vars}
-use Rattle.syn_row.specs.Rows.{RowTree, bare_row}
+use Rattle.syn_row.specs.Rows.{bare_row}
 use Rattle.syn_start.specs.Definitions.{defines_relation, equals_output}
 use Rattle.syn_start.specs.Initial.{assertion_of}
 use Rattle.syn_start.specs.inner.Fine.{IsFunctionClause, IsRelationClause}

@@ -1,10 +1,8 @@
 -- The goal of a specification is plain.
-use Rattle.std.proofs.Common.{◌≡◌, List, [], ◌∷◌, ◌++◌, Option, None, Some, All, Contains, append-nil, map, refl, sym, ◌∙◌, ap, subst, ⊎_elim}
+use Rattle.std.proofs.Common.{◌≡◌, List, [], ◌∷◌, ◌++◌, Option, Some, All, append-nil, refl, sym, ◌∙◌, ap, subst}
 use Rattle.std.specs.List.{flat_map}
-use Rattle.std.specs.Option.{option_and_then, option_map, option_map_or}
-use Rattle.std.proofs.lemmas.List.Elements.{All-append, All-contains, All-cons, All-head, All-nil, All-push, All-tail, Contains-append_cases}
+use Rattle.std.proofs.lemmas.List.Elements.{All-append, All-contains, All-cons, All-head, All-nil, All-push, All-tail}
 use Rattle.syn_term.specs.Bank.{Kept, Belongs, Extends}
-use Rattle.syn_term.specs.declared.sorts.Sort.{Sort}
 use Rattle.syn_term.specs.declared.sorts.Var.{Var}
 use Rattle.syn_term.specs.Symbols.{IsSort, SymbolTable}
 use Rattle.syn_term.specs.Terms.{TermTree, bare, bare_step, nowhere, variable_tree}
@@ -13,14 +11,13 @@ use Rattle.syn_term.proofs.Trees.{fold-Var}
 use Rattle.syn_form.specs.declared.trees.Out.TheVariants as out
 use Rattle.syn_form.specs.declared.trees.Side.TheVariants as side
 use Rattle.syn_form.specs.Inputs.{form_with_inputs}
-use Rattle.syn_form.specs.Plain.{HasOneSortEach, IsFormed, IsFormedOut, IsSorted}
+use Rattle.syn_form.specs.Plain.{HasOneSortEach, IsSorted}
 use Rattle.syn_form.specs.PlainQuantified.{IsPlainQForm}
 use Rattle.syn_form.specs.Quantified.{free_vars, unquantified}
-use Rattle.syn_form.specs.Trees.{FormTree, OutTree, QFormTree, bare_form, bare_out, bare_out_step, form_terms, form_vars, out_terms, out_vars, term_vars, term_vars_step}
+use Rattle.syn_form.specs.Trees.{FormTree, QFormTree, bare_form, bare_out, bare_out_step, form_terms, form_vars, out_terms, out_vars, term_vars, term_vars_step}
 use Rattle.syn_form.proofs.Equations.{fold-Give, out_terms-Give}
 use Rattle.syn_form.proofs.FormedForms.{term_formed}
 use Rattle.syn_form.proofs.InputTerms.{all_still}
-use Rattle.syn_form.proofs.Lists.{Contains-cons_cases, none_in_nil}
 use Rattle.syn_form.proofs.SortedTerms.{variable_sorted}
 use Rattle.syn_row.specs.Rows.{IsPlain, RowTree, bare_row, row_terms}
 use Rattle.syn_row.proofs.RowPlain.{plain_along}
@@ -30,7 +27,7 @@ use Rattle.syn_model.specs.declared.spec_part.SpecPart.TheVariants as part
 use Rattle.syn_model.specs.Heads.{sorts_of}
 use Rattle.syn_model.specs.Specifications.{AsksPart, IsSpec, SpecTree, begun, one_more, output_var}
 use Rattle.syn_model.specs.Tables.{table_of}
-use Rattle.syn_start.specs.Initial.{Exactly, IsGiven, goal_of, output_condition}
+use Rattle.syn_start.specs.Initial.{Exactly, IsGiven, output_condition}
 use Rattle.syn_start.specs.Starts.{IsStart, StartTree}
 use Rattle.syn_start.specs.inner.Goals.{goal_with}
 use Rattle.syn_start.proofs.Canonical.{exactly_one}

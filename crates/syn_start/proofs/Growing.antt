@@ -1,5 +1,5 @@
 -- What is sorted or formed over a table is so over each table that begins with it.
-use Rattle.std.proofs.Common.{◌≡◌, ◌≤◌, List, [], ◌∷◌, Option, None, Some, All, length, map, refl, sym, ◌∙◌, ap, ap₂}
+use Rattle.std.proofs.Common.{◌≡◌, List, [], ◌∷◌, Option, None, Some, All, map, refl, sym, ◌∙◌, ap, ap₂}
 use Rattle.std.specs.Option.{option_and_then}
 use Rattle.syn_term.specs.declared.sorts.Sort.{Sort}
 use Rattle.syn_term.specs.declared.sorts.Sym.{Sym}

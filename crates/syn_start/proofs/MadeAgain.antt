@@ -1,25 +1,21 @@
 -- Trees made once more: they are the same but for places, so what is plain stays so.
-use Rattle.std.proofs.Common.{◌≡◌, ℕ, ◌+◌, ◌<◌, List, [], ◌∷◌, ◌++◌, Option, None, Some, All, IfSome, append-nil, get_or, length, map, take, refl, sym, ◌∙◌, ap, subst}
+use Rattle.std.proofs.Common.{◌≡◌, ℕ, ◌+◌, ◌<◌, List, [], ◌∷◌, ◌++◌, Option, None, All, append-nil, get_or, length, map, take, refl, sym, ◌∙◌, ap, subst}
 use Rattle.std.proofs.lemmas.List.{map-append, take_more}
-use Rattle.std.specs.Option.{option_map, option_map_or}
+use Rattle.std.specs.Option.{option_map}
 use Rattle.syn_term.specs.Bank.{Kept, Belongs, Extends-refl, Extends-trans}
 use Rattle.syn_term.specs.declared.sorts.SymId.{SymId}
-use Rattle.syn_term.specs.declared.sorts.Var.{Var}
-use Rattle.syn_term.specs.declared.term.Place.{Place}
 use Rattle.syn_term.specs.Symbols.{SymbolTable}
-use Rattle.syn_term.specs.Terms.{IsApplication, TermTree, application, bare, nowhere, sort_of}
-use Rattle.syn_term.specs.declared.term.Node.TheViews as node_view
+use Rattle.syn_term.specs.Terms.{IsApplication, TermTree, application, bare, sort_of}
 use Rattle.syn_term.proofs.Trees.{bare-App, fold-App, fold-Var}
 use Rattle.syn_term.specs.Terms.{bare_step}
 use Rattle.syn_form.specs.declared.trees.Side.{Side}
 use Rattle.syn_form.specs.declared.trees.Side.TheVariants as side
 use Rattle.syn_form.specs.Inputs.{form_with_inputs, with_inputs, with_inputs_step}
-use Rattle.syn_form.specs.Plain.{HasOneSortEach, IsFormedOut, IsPlainForm, IsSorted}
-use Rattle.syn_form.specs.Trees.{FormTree, OutTree, bare_form, bare_out, form_terms, form_vars, out_vars}
+use Rattle.syn_form.specs.Plain.{HasOneSortEach, IsPlainForm}
+use Rattle.syn_form.specs.Trees.{FormTree, OutTree, bare_form, bare_out, form_vars}
 use Rattle.syn_form.proofs.Sorting.{sorts_bare}
-use Rattle.syn_form.proofs.SortedTerms.{application_sorted}
 use Rattle.syn_form.proofs.TermNodes.{by_term_cases}
-use Rattle.syn_row.specs.Rows.{IsPlain, RowTree, bare_row, row_terms}
+use Rattle.syn_row.specs.Rows.{IsPlain, RowTree, bare_row}
 use Rattle.syn_row.proofs.Changes.{changes_after, changes_alike, changes_bare, changes_on, map_same}
 use Rattle.syn_row.proofs.RowPlain.{plain_along}
 use Rattle.syn_row.proofs.Telling.{bare-twice}

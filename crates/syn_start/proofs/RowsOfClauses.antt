@@ -1,5 +1,5 @@
 -- The ends of the code that makes the rows of clauses.
-use Rattle.std.proofs.Common.{◌≡◌, ℕ, List, Option, None, Some, MatchOption, map, refl, sym, ◌∙◌, ap, subst}
+use Rattle.std.proofs.Common.{◌≡◌, ℕ, List, Option, None, Some, MatchOption, map, sym, subst}
 use Rattle.std.specs.Option.{option_and_then, option_map}
 use Rattle.syn_term.specs.declared.sorts.SymId.{SymId}
 use Rattle.syn_term.specs.Symbols.{SymbolTable}

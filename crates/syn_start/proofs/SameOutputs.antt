@@ -1,6 +1,6 @@
 -- The formula that says that a term has the value of an output: it is formed, its terms are those of the output and the term, and the
 -- places of the term change nothing.
-use Rattle.std.proofs.Common.{◌≡◌, ◌≤◌, List, [], ◌∷◌, ◌++◌, Some, All, Contains, map, refl, sym, ◌∙◌, ap, ap₂, subst, arith}
+use Rattle.std.proofs.Common.{◌≡◌, List, [], ◌∷◌, ◌++◌, Some, All, Contains, refl, sym, ◌∙◌, ap, ap₂, subst, arith}
 use Rattle.std.specs.List.{flat_map}
 use Rattle.std.proofs.lemmas.List.Elements.{All-cons, All-contains, All-head, All-nil}
 use Rattle.syn_term.specs.declared.sorts.Sort.{Sort}
@@ -14,12 +14,12 @@ use Rattle.syn_form.specs.declared.trees.Out.TheViews as out_view
 use Rattle.syn_form.specs.Plain.{HasOneSortEach, IsFormed, IsFormedOut, IsSorted, PlainFormNode, PlainOutNode, given_sort, given_sort_step}
 use Rattle.syn_form.specs.Simplification.{conjunction}
 use Rattle.syn_form.specs.Trees.{FormTree, OutTree, bare_form, form_terms, form_vars, out_terms, out_vars, term_vars}
-use Rattle.syn_form.proofs.Equations.{bare_form-And, bare_form-Equal, bare_form-Implies, fold-Give, fold-If, form_terms-And, form_terms-Implies, form_terms-Not, out_terms-Give, out_terms-If}
+use Rattle.syn_form.proofs.Equations.{bare_form-And, bare_form-Equal, bare_form-Implies, fold-Give, fold-If, form_terms-And, out_terms-Give, out_terms-If}
 use Rattle.syn_form.proofs.FormedForms.{equality_formed, term_formed}
 use Rattle.syn_form.proofs.Inductions.{by_out_cases}
 use Rattle.syn_form.proofs.Lists.{Contains-head, Contains-tail, flat_map_within}
 use Rattle.syn_form.proofs.Nodes.{every-Implies, every-Not, every-chain, node-If, parts-If}
-use Rattle.syn_form.proofs.OnTerms.{all-Equal, all-Implies, all-Not, all-chain}
+use Rattle.syn_form.proofs.OnTerms.{all-Equal, all-Implies, all-Not}
 use Rattle.syn_form.proofs.Owned.{All-left, All-right}
 use Rattle.syn_start.specs.Definitions.{defines_relation, equals_output, equals_output_step}
 

@@ -1,14 +1,13 @@
 -- The clauses of a theory over its own table, and over the table of a specification.
-use Rattle.std.proofs.Common.{◌≡◌, ℕ, suc, ◌+◌, ◌≤◌, ◌<◌, Bool, true, false, List, [], ◌∷◌, ◌++◌, Option, Some, None, All, Contains, get_or, if◌then◌else◌, length, map, position, slice_get, refl, sym, ◌∙◌, ap, subst, ⊎_elim, inl, inr, arith, zero}
+use Rattle.std.proofs.Common.{◌≡◌, ℕ, suc, ◌+◌, ◌≤◌, ◌<◌, Bool, true, false, List, [], ◌∷◌, ◌++◌, Option, Some, None, All, Contains, get_or, if◌then◌else◌, length, map, position, slice_get, refl, sym, ◌∙◌, ap, subst, ⊎_elim, inl, arith, zero}
 use Rattle.std.specs.List.{flat_map, range_with_len}
 use Rattle.std.specs.Option.{option_and_then, option_map}
 use Rattle.std.specs.Str.{bytes_eq}
-use Rattle.std.proofs.lemmas.List.{get_or-map, length-map}
+use Rattle.std.proofs.lemmas.List.{length-map}
 use Rattle.std.proofs.lemmas.List.Elements.{All-append, All-contains, All-nil, All-cons, Contains-append_cases}
 use Rattle.std.proofs.lemmas.List.Sums.{fold-append}
 use Rattle.std.proofs.lemmas.Option.{get_or_from_slice_get, slice_get-get_or, slice_get-map, slice_get_within}
 use Rattle.std.proofs.lemmas.Slice.Eq.{bytes_eq-Decides}
-use Rattle.syn_term.specs.declared.sorts.Kind.TheVariants as kind
 use Rattle.syn_term.specs.declared.sorts.Sort.{Sort}
 use Rattle.syn_term.specs.declared.sorts.Sym.{Sym}
 use Rattle.syn_term.specs.declared.sorts.SymId.{SymId}
@@ -16,7 +15,7 @@ use Rattle.syn_term.specs.declared.sorts.Var.{Var}
 use Rattle.syn_term.specs.DeclaredSorts.{IsTable}
 use Rattle.syn_term.specs.Symbols.{IsPrefix, IsSort, SymbolTable, names_of, symbol_at, with_symbol}
 use Rattle.syn_term.specs.Terms.{IsApplication, TermTree}
-use Rattle.syn_term.proofs.KeyLemmas.{none_named, some_named}
+use Rattle.syn_term.proofs.KeyLemmas.{some_named}
 use Rattle.syn_term.proofs.SymbolLaws.{IsPrefix-refl, IsPrefix-trans, IsPrefix-with_symbol, IsSort-IsPrefix, symbol_at-IsPrefix}
 use Rattle.syn_form.specs.Elaboration.{sym_id}
 use Rattle.syn_form.specs.Plain.{HasOneSortEach, IsKnownSort, given_sort}
@@ -24,7 +23,6 @@ use Rattle.syn_form.specs.Trees.{FormTree, OutTree, form_vars, out_vars, term_va
 use Rattle.syn_form.proofs.Lists.{Contains-cons_cases, none_in_nil}
 use Rattle.syn_model.specs.declared.decl.Decl.{Decl}
 use Rattle.syn_model.specs.declared.decl.Decl.TheVariants as decl
-use Rattle.syn_model.specs.Clauses.{HasArguments}
 use Rattle.syn_model.specs.Declaring.{AreAmong, IsTheory, MayDeclare, MayFunClause, MayRelClause, nothing, one_more, symbol_of_name}
 use Rattle.syn_model.specs.Headings.{Heading, heading_after, heading_of}
 use Rattle.syn_model.specs.Heads.{Param, input_symbol, program_id, program_symbol, with_head, with_inputs}
@@ -37,7 +35,7 @@ use Rattle.syn_model.proofs.SpecLaws.{spec_table}
 use Rattle.syn_start.specs.Initial.{clause_at, clause_in, clauses_of}
 use Rattle.syn_model.specs.Theories.{TheoryTree}
 use Rattle.syn_start.specs.Starts.{IsStart, StartTree}
-use Rattle.syn_start.specs.inner.Fine.{IsClauseOf, IsFunctionClause, IsRelationClause}
+use Rattle.syn_start.specs.inner.Fine.{IsClauseOf}
 use Rattle.syn_start.proofs.Growing.{all_sorted_more, applies_more, atom_more, formed_more, given_known, given_more, out_more, result_more}
 use Rattle.syn_start.proofs.SameOutputs.{sorts_within}
 
@@ -61,9 +59,9 @@ numbered_one n (x ∷ vs) e v w c d same =
     let rest : numbers vs ≡ range_with_len (n + 1) (length vs) = cc in
     ⊎_elim
     (λ a. let is : x.number ≡ v.number = ap (λ (z : Var). z.number) a in
-        ⊎_elim (λ b. sym a ∙ b) (λ b. let more = numbered_least (n + 1) vs rest w b in absurd (omega arith)) (Contains-cons_cases x vs w d))
+    ⊎_elim (λ b. sym a ∙ b) (λ b. let more = numbered_least (n + 1) vs rest w b in absurd (omega arith)) (Contains-cons_cases x vs w d))
     (λ a. let least = numbered_least (n + 1) vs rest v a in
-        ⊎_elim (λ b. let is : x.number ≡ w.number = ap (λ (z : Var). z.number) b in absurd (omega arith)) (λ b. numbered_one (n + 1) vs rest v w a b same) (Contains-cons_cases x vs w d))
+    ⊎_elim (λ b. let is : x.number ≡ w.number = ap (λ (z : Var). z.number) b in absurd (omega arith)) (λ b. numbered_one (n + 1) vs rest v w a b same) (Contains-cons_cases x vs w d))
     (Contains-cons_cases x vs v c)
 
 -- no variable number has two sorts in a clause

@@ -1,6 +1,6 @@
 -- A formula that has no quantifier, as one without them: it is formed where the formula is, and has its free variables; so the goal
 -- of a specification is plain.
-use Rattle.std.proofs.Common.{◌≡◌, ℕ, suc, ◌+◌, ◌≤◌, List, [], ◌∷◌, ◌++◌, Option, None, Some, All, Contains, append-nil, length, map, refl, sym, ◌∙◌, ap, ap₂, subst, inl, inr, arith}
+use Rattle.std.proofs.Common.{◌≡◌, suc, ◌≤◌, List, [], ◌∷◌, ◌++◌, Option, None, Some, All, append-nil, length, map, refl, sym, ◌∙◌, ap, ap₂, subst, inl, inr}
 use Rattle.std.specs.List.{flat_map}
 use Rattle.std.specs.Option.{option_and_then, option_map}
 use Rattle.std.proofs.lemmas.Grind.{flat_map-append}
@@ -85,9 +85,10 @@ module _ (table : SymbolTable) where
         let p = parts-Implies _ a b h in
         let k = w m.0 m.1 p.0 in
         let l = x n.0 n.1 p.1 in
-        moved (view.Implies m.0 n.0) g (free_vars a ++ free_vars b) _ n.2 (qfold-Implies free_vars_step a b)
-        ((implication_formed table (view.Implies m.0 n.0) m.0 n.0 m.0 n.0 refl refl refl).1 (k.0, l.0),
-        ap (flat_map term_vars) (form_terms-Implies m.0 n.0) ∙ (flat_map-append term_vars (form_terms m.0) (form_terms n.0) ∙ ap₂ (λ (y z : List Var). y ++ z) k.1 l.1));
+        moved (view.Implies m.0 n.0) g (free_vars a ++ free_vars b) _ n.2 (qfold-Implies free_vars_step a b) (
+          (implication_formed table (view.Implies m.0 n.0) m.0 n.0 m.0 n.0 refl refl refl).1 (k.0, l.0),
+          ap (flat_map term_vars) (form_terms-Implies m.0 n.0) ∙ (flat_map-append term_vars (form_terms m.0) (form_terms n.0) ∙ ap₂ (λ (y z : List Var). y ++ z) k.1 l.1),
+        );
     at_all = λ b a w g e h. let none : None ≡ Some g = sym (qfold-All unquantified_step b a) ∙ e in absurd (cc);
     at_exists = λ b a w g e h. let none : None ≡ Some g = sym (qfold-Exists unquantified_step b a) ∙ e in absurd (cc);
   }

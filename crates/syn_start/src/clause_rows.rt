@@ -92,12 +92,7 @@ fn function_row(
 }
 
 /// What a clause of the relation says.
-fn relation_form(
-    alloc: Global,
-    r: SymId,
-    args: &[Term],
-    body: &Form,
-) -> Result<Form, NoMemory>
+fn relation_form(alloc: Global, r: SymId, args: &[Term], body: &Form) -> Result<Form, NoMemory>
     ensures { IfOk result (λ f. f ≡ definitions.defines_relation (form.Atom r args.now) body.now) }
 {
     let head = atom(alloc, r, args)?;

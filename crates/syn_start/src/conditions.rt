@@ -39,11 +39,7 @@ fn required(parts: &[SpecPart]) -> Option<&Form>
 /// The initial row of the input condition: the condition as an assertion, `true` where none is stated. None
 /// exactly where it passes the limit of a row. The one error is `NoMemory`.
 #[tactic(auto, using(crate::proofs::MadeAgain::growth))]
-pub fn input_row(
-    alloc: Global,
-    bank: &mut Bank,
-    start: &Start,
-) -> Result<Option<Row>, NoMemory>
+pub fn input_row(alloc: Global, bank: &mut Bank, start: &Start) -> Result<Option<Row>, NoMemory>
     ensures row { IfOk result (Exactly (InputRow (start.now).spec)) }
     ensures ready { IfOk result (λ o. IfSome o (IsReady (start.now).spec.table bank.new)) }
     ensures extends { Extends bank.old bank.new }

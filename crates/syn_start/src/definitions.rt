@@ -46,7 +46,11 @@ fn implication(alloc: Global, a: Form, b: Form) -> Result<Form, NoMemory>
 }
 
 /// The two behind pointers.
-pub(crate) fn both_shared(alloc: Global, a: Form, b: Form) -> Result<(Shared<Form>, Shared<Form>), NoMemory>
+pub(crate) fn both_shared(
+    alloc: Global,
+    a: Form,
+    b: Form,
+) -> Result<(Shared<Form>, Shared<Form>), NoMemory>
     ensures { IfOk result (λ both. (both.0 ≡ a) × (both.1 ≡ b)) }
 {
     match Shared::new(alloc, a) {

@@ -110,11 +110,7 @@ fn condition_row(
 /// a free variable. None exactly where the condition has a quantifier or the row passes the limit of a row.
 /// The one error is `NoMemory`.
 #[tactic(auto, using(crate::proofs::MadeAgain::growth))]
-pub fn goal_row(
-    alloc: Global,
-    bank: &mut Bank,
-    start: &Start,
-) -> Result<Option<Row>, NoMemory>
+pub fn goal_row(alloc: Global, bank: &mut Bank, start: &Start) -> Result<Option<Row>, NoMemory>
     ensures row { IfOk result (Exactly (GoalRow (start.now).spec)) }
     ensures ready { IfOk result (λ o. IfSome o (IsReady (start.now).spec.table bank.new)) }
     ensures extends { Extends bank.old bank.new }

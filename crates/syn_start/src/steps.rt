@@ -13,10 +13,7 @@ pub enum Origin {
     /// The axiom of this name.
     Axiom(Text),
     /// A clause of the function or relation of this name, counted from 1 among its clauses.
-    Def {
-        name: Text,
-        clause: u32,
-    },
+    Def { name: Text, clause: u32 },
     /// The induction hypothesis of the named order.
     Induct,
 }

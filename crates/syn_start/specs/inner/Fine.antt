@@ -1,5 +1,5 @@
 -- For private contracts: what is known of a clause of a theory over the table of a specification.
-use Rattle.std.specs.Prelude.{◌≡◌, List, ◌++◌, Some, All, map}
+use Rattle.std.specs.Prelude.{◌≡◌, List, ◌++◌, Some, All}
 use Rattle.std.specs.List.{flat_map}
 use Rattle.syn_term.specs.declared.sorts.Sort.{Sort}
 use Rattle.syn_term.specs.declared.sorts.SymId.{SymId}

@@ -1,4 +1,4 @@
-use Rattle.std.proofs.Common.{◌≡◌, None, Some}
+use Rattle.std.proofs.Common.{◌≡◌, Some}
 use Rattle.std.proofs.lemmas.Result.{IfOk-weaker}
 use Rattle.syn_form.proofs.InputTerms.{refused}
 use Rattle.syn_start.proofs.ClauseForms.{call_plain}

@@ -1,6 +1,6 @@
-use Rattle.std.proofs.Common.{◌≡◌, ◌+◌, ◌*◌, ◌<◌, ◌∙◌, length, map, sum, None, sym, ap, arith}
+use Rattle.std.proofs.Common.{◌≡◌, ◌+◌, ◌*◌, ◌<◌, ◌∙◌, length, map, sum, None, sym, arith}
 use Rattle.syn_term.specs.Bank.{Extends-trans}
-use Rattle.syn_term.specs.Terms.{bare, nodes}
+use Rattle.syn_term.specs.Terms.{nodes}
 use Rattle.syn_form.specs.Plain.{IsSorted}
 use Rattle.syn_form.proofs.InputTerms.{fewer_args, refused}
 use Rattle.syn_form.proofs.MadeTerms.{belongs_more, item_of, no_more_than_all}
