@@ -1,0 +1,12 @@
+pub mod Canonical
+pub mod Growing
+pub mod SameOutputs
+pub mod TheoryClauses
+pub mod Picking
+pub mod MadeAgain
+pub mod ClauseForms
+pub mod RowsOfClauses
+pub mod SpecParts
+pub mod WithoutQuantifiers
+pub mod GoalRows
+pub mod Options

@@ -1,0 +1,5 @@
+pub mod Definitions
+pub mod Derivations
+pub mod Initial
+pub mod Starts
+pub mod inner

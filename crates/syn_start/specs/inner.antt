@@ -1,0 +1,3 @@
+pub mod Fine
+pub mod Goals
+pub mod Under
