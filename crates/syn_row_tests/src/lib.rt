@@ -1,9 +1,11 @@
-//! Tables of rows as texts, and the canonical row of each; and rows about the limits.
+//! Tables of rows as texts, and the canonical row of each; rows about the limits; and what splitting and duality give.
 #![tactic(auto)]
 
 #[cfg(test)]
 mod canonical_rows;
 #[cfg(test)]
 mod limits;
+#[cfg(test)]
+mod splitting;
 #[cfg(test)]
 mod texts;

@@ -15,7 +15,7 @@ use syn_term::{Bank, Kind, Sort, Symbols};
 
 const NAT: Sort = Sort::Nat;
 
-/// A table with lists of numbers, a relation and a function.
+/// A table with lists of numbers, a relation, a function and two inputs.
 pub fn make_table(alloc: Global) -> Result<Symbols, Fail> {
     let mut syms = Symbols::new(alloc)?;
     if syms.add_list("list", "nil", "cons", NAT)?.is_none() {
@@ -23,6 +23,8 @@ pub fn make_table(alloc: Global) -> Result<Symbols, Fail> {
     }
     added(alloc, &mut syms, "le", Kind::Rel, &[NAT, NAT], None)?;
     added(alloc, &mut syms, "dbl", Kind::Fun, &[NAT], Some(NAT))?;
+    added(alloc, &mut syms, "a", Kind::Input, &[], Some(NAT))?;
+    added(alloc, &mut syms, "b", Kind::Input, &[], Some(NAT))?;
     Ok(syms)
 }
 
