@@ -5,6 +5,7 @@ pub mod Changes
 pub mod Commuting
 pub mod Numbers
 pub mod Keeping
+pub mod Joins
 pub mod Parts
 pub mod OwnArgs
 pub mod OneBank
