@@ -25,6 +25,7 @@ pub use guards::GuardRule;
 pub use joining::{chosen, guarded, joined, joined_side};
 pub use limits::{ROW_DEPTH, ROW_NODES, is_within};
 pub use normalizing::canonical;
+pub use occurrences::output_occurrences;
 pub use plain::is_plain_row;
 pub use rows::Row;
 pub use weighing::{STEP_DEPTH, STEP_NODES, is_light};

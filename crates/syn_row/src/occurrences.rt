@@ -122,3 +122,13 @@ pub(crate) fn occurrences(alloc: Global, row: &Row) -> Result<Items<Var>, NoMemo
     note_output(&mut vars, &row.out)?;
     Ok(vars)
 }
+
+/// The variables of the output, each once, in the order in which they first occur: those of a test
+/// before those of the arms. The one error is `NoMemory`.
+pub fn output_occurrences(alloc: Global, out: &Out) -> Result<Items<Var>, NoMemory>
+    ensures { IfOk result (λ vars. vars ≡ first_occurrences (out_vars out.now)) }
+{
+    let mut vars = Items::new(alloc);
+    note_out(&mut vars, out)?;
+    Ok(vars)
+}
