@@ -4,3 +4,4 @@ pub mod Growth
 pub mod PartRows
 pub mod Taken
 pub mod Instances
+pub mod BroughtCalls

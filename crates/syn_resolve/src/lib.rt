@@ -2,6 +2,7 @@
 //! law that each gives one row at most. No function makes the rows of the last two yet.
 #![tactic(auto)]
 
+mod brought;
 mod equality;
 mod instance;
 mod splitting;
