@@ -5,3 +5,6 @@ pub mod PartRows
 pub mod Taken
 pub mod Instances
 pub mod BroughtCalls
+pub mod PartsAt
+pub mod SameFigures
+pub mod ReflexAnswers

@@ -5,7 +5,9 @@
 mod brought;
 mod equality;
 mod instance;
+mod reflexivity;
 mod splitting;
 
 pub use equality::equality_at;
+pub use reflexivity::reflex;
 pub use splitting::{dual, split};
