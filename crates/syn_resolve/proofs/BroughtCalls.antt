@@ -3,7 +3,7 @@ use Rattle.std.proofs.Common.{◌≡◌, Bool, true, false, cond, List, [], ◌�
 use Rattle.std.specs.List.{flat_map}
 use Rattle.std.specs.Option.{unwrap_or}
 use Rattle.std.proofs.lemmas.List.{map-append}
-use Rattle.std.proofs.lemmas.List.Elements.{All-contains, All-head, All-nil, All-tail, Contains-append_left, Contains-append_right, Contains-get_or}
+use Rattle.std.proofs.lemmas.List.Elements.{All-contains, All-head, All-nil, All-tail, Contains-get_or}
 use Rattle.syn_term.specs.Bank.{Belongs, Kept}
 use Rattle.syn_term.specs.declared.sorts.SymId.{SymId}
 use Rattle.syn_term.specs.declared.sorts.Var.{Var}
@@ -11,7 +11,7 @@ use Rattle.syn_term.specs.Symbols.{SymbolTable}
 use Rattle.syn_term.specs.Terms.{TermTree, bare, nowhere, variable_tree}
 use Rattle.syn_form.specs.Plain.{IsSorted}
 use Rattle.syn_form.specs.Substitutions.{Binding, KeepsSorts, Substitution, image, same_var}
-use Rattle.syn_form.specs.Trees.{FormTree, OutTree, bare_form, form_vars, out_vars, term_vars}
+use Rattle.syn_form.specs.Trees.{FormTree, OutTree, bare_form, out_vars, term_vars}
 use Rattle.syn_form.proofs.Lists.{All-flat_map, Contains-flat_map, Contains-flat_map_from}
 use Rattle.syn_row.specs.declared.guards.GuardRule.{GuardRule}
 use Rattle.syn_row.specs.Calls.{calls_standing}

@@ -1,16 +1,14 @@
 -- What reflexivity answers: with no equality, with no unifier, and with the row that one unifier gives.
-use Rattle.std.proofs.Common.{◌≡◌, ℕ, List, [], ◌∷◌, Option, None, Some, All, Contains, IfSome, MatchOption, get_or, sym, ◌∙◌, ap, subst}
-use Rattle.std.specs.List.{flat_map}
+use Rattle.std.proofs.Common.{◌≡◌, ℕ, List, [], ◌∷◌, Option, None, Some, IfSome, MatchOption, sym, ◌∙◌, ap, subst}
 use Rattle.std.specs.Option.{option_map_or}
 use Rattle.std.proofs.lemmas.List.Elements.{Contains-append_left}
 use Rattle.syn_term.specs.Bank.{Extends, Kept}
-use Rattle.syn_term.specs.declared.sorts.Var.{Var}
 use Rattle.syn_term.specs.Symbols.{SymbolTable}
 use Rattle.syn_term.specs.Terms.{TermTree}
 use Rattle.syn_form.specs.declared.trees.Form.TheVariants as form
 use Rattle.syn_form.specs.Positions.{at_position, formula}
 use Rattle.syn_form.specs.Substitutions.{Binding, IsUnifierOfTerms, Substitution, UnifiesTerms}
-use Rattle.syn_form.specs.Trees.{FormTree, form_terms, form_vars, out_vars, term_vars}
+use Rattle.syn_form.specs.Trees.{form_terms, form_vars, out_vars, term_vars}
 use Rattle.syn_form.proofs.Equations.{form_terms-Equal}
 use Rattle.syn_form.proofs.Lists.{Contains-flat_map}
 use Rattle.syn_form.proofs.TreeParts.{formula_is}

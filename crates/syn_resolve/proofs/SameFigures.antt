@@ -1,10 +1,9 @@
 -- Figures that are one but for the places of terms give the same, and what they have in common with reflexivity.
-use Rattle.std.proofs.Common.{◌≡◌, ◌≤◌, ◌+◌, ℕ, List, [], ◌∷◌, ◌++◌, ◌⊎◌, inl, inr, Option, None, Some, All, Contains, IfSome, map, get_or, sum, refl, sym, ◌∙◌, ap, subst, arith}
+use Rattle.std.proofs.Common.{◌≡◌, ◌≤◌, ◌+◌, List, [], ◌∷◌, ◌++◌, ◌⊎◌, inl, inr, Option, None, Some, All, Contains, IfSome, map, get_or, sum, refl, sym, ◌∙◌, ap, subst, arith}
 use Rattle.std.specs.List.{flat_map}
 use Rattle.std.specs.Option.{option_map, option_map_or}
 use Rattle.std.proofs.lemmas.List.Elements.{All-append, All-head, Contains-append_cases, Contains-append_left, Contains-append_right}
 use Rattle.syn_term.specs.Bank.{Belongs, Kept}
-use Rattle.syn_term.specs.declared.sorts.Var.{Var}
 use Rattle.syn_term.specs.Symbols.{SymbolTable}
 use Rattle.syn_term.specs.Terms.{bare}
 use Rattle.syn_form.specs.declared.trees.Form.TheVariants as form
@@ -18,7 +17,7 @@ use Rattle.syn_form.proofs.Owned.{All-left, All-right}
 use Rattle.syn_row.specs.declared.guards.GuardRule.{GuardRule}
 use Rattle.syn_row.specs.Calls.{forms_terms}
 use Rattle.syn_row.specs.Guards.{brought, guards_of}
-use Rattle.syn_row.specs.Results.{Figure, Gives, IsLight, guarded, out_list}
+use Rattle.syn_row.specs.Results.{Figure, IsLight, guarded, out_list}
 use Rattle.syn_row.specs.Rows.{IsPlain, RowTree, bare_row, row_terms, row_vars, substituted_row}
 use Rattle.syn_row.proofs.Agreeing.{AreAmong}
 use Rattle.syn_row.proofs.Alike.{AreAlike, alike_gives, renamed_form, renamed_out}
