@@ -1,5 +1,5 @@
 -- What belongs to a bank still does when an instance has been made.
-use Rattle.std.proofs.Common.{get_or, List, Option, ◌++◌, [], All}
+use Rattle.std.proofs.Common.{get_or, Option, ◌++◌, [], All}
 use Rattle.std.proofs.lemmas.List.Elements.{All-append}
 use Rattle.std.specs.Option.{option_map_or}
 use Rattle.syn_term.specs.Bank.{Belongs, Belongs-extends, Extends, Kept}

@@ -4,3 +4,7 @@ pub mod Growth
 pub mod PartRows
 pub mod Taken
 pub mod Instances
+pub mod BroughtCalls
+pub mod PartsAt
+pub mod SameFigures
+pub mod ReflexAnswers

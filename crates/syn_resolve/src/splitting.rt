@@ -58,7 +58,7 @@ fn part(row: &Row, member: u32) -> Option<(Side, &Form)>
     }
 }
 /// The row of the side and the formula, with the output of this one.
-fn under(row: &Row, side: Side, form: Form) -> Result<Row, NoMemory>
+pub(crate) fn under(row: &Row, side: Side, form: Form) -> Result<Row, NoMemory>
     ensures { IfOk result (λ r. r ≡ record { side = side; form = form; out = (row.now).out }) }
 {
     match &row.out {
