@@ -1,4 +1,5 @@
-//! Tables of rows as texts, and the canonical row of each; rows about the limits; and what splitting and duality give.
+//! Tables of rows as texts, and the canonical row of each; rows about the limits; and what splitting, duality and
+//! reflexivity give.
 #![tactic(auto)]
 
 #[cfg(test)]

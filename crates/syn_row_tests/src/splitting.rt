@@ -1,12 +1,12 @@
-// What splitting and duality give.
+// What splitting, duality and reflexivity give.
 use crate::texts::{make_table, print_row, read_row, scope_of};
 use std::alloc::Global;
 use std::process::Abort;
 use std::test::Fail;
 use syn_cases::cut;
-use syn_resolve::{dual, split};
+use syn_resolve::{dual, reflex, split};
 use syn_row::is_plain_row;
-use syn_term::{Bank, Symbols, decimal_number};
+use syn_term::{Bank, Pos, Symbols, decimal_number};
 
 /// A row, a member, and the row that splitting gives; `none` where it gives none.
 const SPLIT: &str = "\
@@ -34,15 +34,43 @@ assert le(a, b) => goal not le(a, b)
 assert le(a, b) and le(b, a) | b => goal not (le(a, b) and le(b, a)) | b
 assert true => goal false";
 
+/// A row, a position, and the row that reflexivity gives there without guards; `none` where it gives none.
+const REFLEX: &str = "\
+goal ?1 = a | ?1 / - => goal true | a
+goal ?4 = s(?7) and le(?7, ?4) | ?4 / 1 => goal le(?1, s(?1)) | s(?1)
+assert le(a, ?1) or ?1 = b | ?1 / 2 => assert true | b
+assert le(?2, ?1) and dbl(?1) = dbl(?2) / 2 => assert le(?1, ?1)
+goal not dbl(?3) = ?5 -> le(?5, b) | ?5 / 1.1 => goal true | dbl(?1)
+goal le(?6, a) and ?5:list = nil / 2 => goal le(?1, a)
+goal s(?1) = ?1 | ?1 / - => none
+goal a = b / - => none
+goal a = a / - => goal true
+goal le(a, b) | a / - => none
+goal ?1 = a | ?1 / 1 => none
+goal ?1 = a | ?1 / 3 => none
+goal not ?1 = a / - => none";
+
 /// What is done with a row.
 #[derive(Clone, Copy)]
-enum Rule {
+enum Rule<'a> {
     Split(u32),
     Dual,
+    Reflex(&'a str),
+}
+
+/// The position of the text: numbers below ten with points between, `-` for the root.
+fn pos_of(alloc: Global, text: &str) -> Result<Pos, Fail> {
+    let mut pos = Pos::root(alloc);
+    for step in text.split('.') {
+        if step != "-" {
+            pos.push(decimal_number(step).unwrap_or(0))?;
+        }
+    }
+    Ok(pos)
 }
 
 /// The text of what the rule gives of the row, `none` where it gives none.
-fn given_text(alloc: Global, syms: &Symbols, text: &str, rule: Rule) -> Result<String, Fail> {
+fn given_text(alloc: Global, syms: &Symbols, text: &str, rule: Rule<'_>) -> Result<String, Fail> {
     let scope = scope_of(syms);
     let mut bank = Bank::new(alloc);
     let row = read_row(alloc, &mut bank, &scope, text)?;
@@ -52,6 +80,7 @@ fn given_text(alloc: Global, syms: &Symbols, text: &str, rule: Rule) -> Result<S
     let given = match rule {
         Rule::Split(member) => split(alloc, &mut bank, syms, &row, member)?,
         Rule::Dual => dual(alloc, &mut bank, syms, &row)?,
+        Rule::Reflex(at) => reflex(alloc, &mut bank, syms, None, &row, &pos_of(alloc, at)?)?,
     };
     match given {
         None => Ok(String::from_str(alloc, "none")?),
@@ -80,6 +109,19 @@ fn takes_duals(rt: HostRuntime) -> Result<(), Fail> {
     for line in DUAL.lines() {
         let (text, want) = cut(line, " => ");
         let got = given_text(alloc, &syms, text, Rule::Dual)?;
+        assert_eq!(rt; got.as_str(), want, "at {line}");
+    }
+    Ok(())
+}
+
+#[test]
+fn makes_sides_one(rt: HostRuntime) -> Result<(), Fail> {
+    let alloc = rt.alloc();
+    let syms = make_table(alloc)?;
+    for line in REFLEX.lines() {
+        let (case, want) = cut(line, " => ");
+        let (text, at) = cut(case, " / ");
+        let got = given_text(alloc, &syms, text, Rule::Reflex(at))?;
         assert_eq!(rt; got.as_str(), want, "at {line}");
     }
     Ok(())
