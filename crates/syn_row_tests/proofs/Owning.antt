@@ -11,12 +11,6 @@ use Rattle.syn_form.proofs.Equations.{form_terms-Not}
 use Rattle.syn_form.proofs.Owned.{All-left}
 use Rattle.syn_row.specs.Rows.{RowTree, row_terms}
 
-pub still : (a b : Kept) (ts : List TermTree) → Extends a b → All (Belongs a) ts → All (Belongs b) ts
-still a b ts e h = λ k d lt. Belongs-extends a b (get_or ts k d) e (h k d lt)
-
-pub both_own : (a b : Kept) (f : FormTree) (o : Option OutTree) → Extends a b → All (Belongs a) (form_terms f) → All (Belongs b) (option_map_or out_terms o []) → All (Belongs b) (form_terms f ++ option_map_or out_terms o [])
-both_own a b f o e h k = All-append (Belongs b) (form_terms f) (option_map_or out_terms o []) (still a b (form_terms f) e h) k
-
 pub two_rows : (b : Kept) (r s : RowTree) → All (Belongs b) (row_terms r) → All (Belongs b) (row_terms s) → OfOneBank (row_terms r ++ row_terms s)
 two_rows b r s h k = OfOneBank-from b (row_terms r ++ row_terms s) (All-append (Belongs b) (row_terms r) (row_terms s) h k)
 

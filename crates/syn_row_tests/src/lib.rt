@@ -7,6 +7,6 @@ mod canonical_rows;
 #[cfg(test)]
 mod limits;
 #[cfg(test)]
-mod splitting;
+mod samples;
 #[cfg(test)]
-mod texts;
+mod splitting;

@@ -1,4 +1,4 @@
-use Rattle.syn_row_tests.proofs.Owning.{still}
+use Rattle.syn_row_cases.proofs.Owning.{still}
 use Rattle.syn_row_tests.proofs.canonical_rows.are_one.Goals as goal
 
 pub is_one-requires-clause-row : goal.is_one-requires-clause-row

@@ -7,26 +7,11 @@ ghost use Rattle.syn_row.specs.Rows.{row_terms};
 
 use std::alloc::Global;
 use std::test::Fail;
-use syn_cases::{added, cut};
+use syn_cases::cut;
 use syn_expr::{ExprError, Scope, print_form, print_out, read_form, read_out};
 use syn_form::{Out, Side};
 use syn_row::Row;
-use syn_term::{Bank, Kind, Sort, Symbols};
-
-const NAT: Sort = Sort::Nat;
-
-/// A table with lists of numbers, a relation, a function and two inputs.
-pub fn make_table(alloc: Global) -> Result<Symbols, Fail> {
-    let mut syms = Symbols::new(alloc)?;
-    if syms.add_list("list", "nil", "cons", NAT)?.is_none() {
-        return Err(Fail::new("no sort"));
-    }
-    added(alloc, &mut syms, "le", Kind::Rel, &[NAT, NAT], None)?;
-    added(alloc, &mut syms, "dbl", Kind::Fun, &[NAT], Some(NAT))?;
-    added(alloc, &mut syms, "a", Kind::Input, &[], Some(NAT))?;
-    added(alloc, &mut syms, "b", Kind::Input, &[], Some(NAT))?;
-    Ok(syms)
-}
+use syn_term::{Bank, Symbols};
 
 /// In rows.
 pub fn scope_of(syms: &Symbols) -> Scope<'_> {

@@ -1,0 +1,94 @@
+// A theory, and specifications over it.
+ghost use Rattle.std.specs.Prelude.{IfOk};
+ghost use Rattle.syn_model.specs.Specifications.{IsSpec};
+
+use std::alloc::Global;
+use std::test::Fail;
+use syn_files::{read_spec, read_theory};
+use syn_model::{Spec, Theory};
+use syn_start::Start;
+use syn_term::Bank;
+
+const THEORY: &str = "\
+theory sample
+fun p(nat): nat
+clause p(0) = 0
+clause p(s(x)) = x
+fun dbl(nat): nat
+clause dbl(0) = 0
+clause dbl(s(x)) = s(s(dbl(x)))
+rel le(nat, nat)
+clause le(x, 0) <-> x = 0
+clause le(x, s(y)) <-> x = s(y) or le(x, y)
+rel lt(nat, nat)
+clause lt(x, y) <-> le(s(x), y)
+order below(x: nat) by x
+fun least(nat, nat): nat
+clause least(x, y) = if le(x, y) then x else y
+";
+
+const MAX2: &str = "\
+spec max2
+program max2(a: nat, b: nat): z: nat
+ensures le(a, z) and le(b, z) and (z = a or z = b)
+primitive le
+";
+
+const TWICE: &str = "\
+spec twice
+program twice(a: nat): z: nat
+requires le(0, a)
+ensures z = dbl(a)
+order below
+primitive p
+";
+
+const ABOVE: &str = "\
+spec above
+program above(a: nat): z: nat
+ensures some x: nat. le(x, z)
+";
+
+fn spec_text(name: &str) -> &'static str {
+    match name {
+        "max2" => MAX2,
+        "twice" => TWICE,
+        _ => ABOVE,
+    }
+}
+
+fn theory_of(alloc: Global) -> Result<Theory, Fail> {
+    match read_theory(alloc, &mut Bank::new(alloc), THEORY.as_bytes()) {
+        Ok(theory) => Ok(theory),
+        Err(_) => Err(Fail::new("no theory")),
+    }
+}
+
+/// The specification of this name, over the theory, with what a derivation begins with.
+pub fn start_of(alloc: Global, bank: &mut Bank, name: &str) -> Result<Start, Fail> {
+    let theory = theory_of(alloc)?;
+    let spec = spec_over(alloc, &theory, name)?;
+    if !theory.is_whole() {
+        return Err(Fail::new("a clause is missing"));
+    }
+    if !spec.is_whole() {
+        return Err(Fail::new("no output condition"));
+    }
+    Ok(Start::new(alloc, bank, &theory, &spec)?)
+}
+
+fn spec_over(alloc: Global, theory: &Theory, name: &str) -> Result<Spec, Fail>
+    ensures { IfOk result (IsSpec (theory.now).decls) }
+{
+    let text = spec_text(name);
+    match read_spec(alloc, &mut Bank::new(alloc), theory, text.as_bytes()) {
+        Ok(spec) => Ok(spec),
+        Err(_) => Err(Fail::new("no specification")),
+    }
+}
+
+/// The specification of this name.
+pub fn spec_of(alloc: Global, name: &str) -> Result<Spec, Fail> {
+    let theory = theory_of(alloc)?;
+    spec_over(alloc, &theory, name)
+}
