@@ -10,3 +10,4 @@ pub mod SpecParts
 pub mod WithoutQuantifiers
 pub mod GoalRows
 pub mod Options
+pub mod RuleParts

@@ -30,7 +30,7 @@ put_none = by_term_cases (λ t. with_inputs [] t ≡ bare t)
     (λ p v. fold-Var (with_inputs_step []) p v ∙ sym (fold-Var bare_step p v))
     (λ p f args h. fold-App (with_inputs_step []) p f args ∙ (ap (application f) (map_same (with_inputs []) bare args h) ∙ sym (bare-App p f args)))
 
-put_nothing : (f : FormTree) → bare_form (form_with_inputs [] f) ≡ bare_form f
+pub put_nothing : (f : FormTree) → bare_form (form_with_inputs [] f) ≡ bare_form f
 put_nothing f =
     changes_alike (λ g. bare_form (form_with_inputs [] g)) bare_form (λ t. bare (with_inputs [] t)) bare
     (changes_after (form_with_inputs []) bare_form (with_inputs []) bare (changes_on (with_inputs [])) changes_bare) changes_bare (λ t. ap bare (put_none t) ∙ bare-twice t) f
