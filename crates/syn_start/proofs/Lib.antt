@@ -11,3 +11,4 @@ pub mod WithoutQuantifiers
 pub mod GoalRows
 pub mod Options
 pub mod RuleParts
+pub mod RuleLaws

@@ -12,11 +12,10 @@ ghost use Rattle.syn_start.specs.Initial.{input_condition};
 ghost use Rattle.syn_start.specs.Rules.{IsOwnTerm, order_name};
 
 use crate::conditions::required;
-use crate::start::Start;
 use sqlite_items::Items;
 use std::alloc::Global;
 use syn_form::{Form, put_inputs};
-use syn_model::SpecPart;
+use syn_model::{Spec, SpecPart};
 use syn_term::{Bank, NoMemory, SymId, Symbols, Term, Text};
 
 /// The name of the order, where the part names it.
@@ -92,13 +91,13 @@ fn own_form(alloc: Global, bank: &mut Bank, syms: &Symbols, f: &Form) -> Result<
 
 /// The input condition, made by the bank; `true` where none is stated.
 #[tactic(auto, using(crate::proofs::MadeAgain::growth))]
-pub(crate) fn own_condition(alloc: Global, bank: &mut Bank, start: &Start) -> Result<Form, NoMemory>
-    ensures tree { IfOk result (λ g. bare_form g ≡ bare_form (input_condition (start.now).spec.parts)) }
+pub(crate) fn own_condition(alloc: Global, bank: &mut Bank, spec: &Spec) -> Result<Form, NoMemory>
+    ensures tree { IfOk result (λ g. bare_form g ≡ bare_form (input_condition (spec.now).parts)) }
     ensures extends { Extends bank.old bank.new }
     ensures belongs { IfOk result (λ g. All (Belongs bank.new) (form_terms g)) }
 {
-    match required(start.spec().parts()) {
+    match required(spec.parts()) {
         None => Ok(Form::True),
-        Some(f) => own_form(alloc, bank, start.symbols(), f),
+        Some(f) => own_form(alloc, bank, spec.symbols(), f),
     }
 }

@@ -9,6 +9,7 @@ mod def_rows;
 mod definitions;
 mod derivation;
 mod goals;
+mod guard_rule;
 mod guard_rules;
 mod initial;
 mod owning;
