@@ -1,10 +1,9 @@
 -- What the guard rule of a specification is over its table.
-use Rattle.std.proofs.Common.{◌≡◌, ℕ, List, [], ◌∷◌, ◌++◌, Option, Some, None, All, get_or, map, position, slice_get, refl, sym, ◌∙◌, ap, ap₂, subst}
+use Rattle.std.proofs.Common.{◌≡◌, ℕ, List, [], ◌∷◌, Option, Some, None, All, get_or, map, position, refl, sym, ◌∙◌, ap, ap₂, subst}
 use Rattle.std.specs.Option.{option_and_then, option_map}
 use Rattle.std.specs.Str.{bytes_eq}
 use Rattle.std.proofs.lemmas.List.Elements.{All-cons, All-head, All-nil, All-push, All-tail}
 use Rattle.std.proofs.lemmas.Option.{get_or_from_slice_get, slice_get-get_or, slice_get_within}
-use Rattle.syn_term.specs.declared.sorts.Kind.TheVariants as kind
 use Rattle.syn_term.specs.declared.sorts.Sort.{Sort}
 use Rattle.syn_term.specs.declared.sorts.Sym.{Sym}
 use Rattle.syn_term.specs.declared.sorts.SymId.{SymId}
@@ -14,7 +13,6 @@ use Rattle.syn_term.specs.Terms.{IsApplication, TermTree, nowhere, sort_of}
 use Rattle.syn_term.proofs.KeyLemmas.{none_named}
 use Rattle.syn_term.proofs.SymbolLaws.{IsSort-IsPrefix, symbol_at-IsPrefix}
 use Rattle.syn_term.proofs.Trees.{fold-App}
-use Rattle.syn_form.specs.declared.trees.Form.TheVariants as form
 use Rattle.syn_form.specs.Elaboration.{sym_id}
 use Rattle.syn_form.specs.Inputs.{IsInput}
 use Rattle.syn_form.specs.Plain.{IsFormed, IsSorted, SortedNode}
@@ -41,21 +39,22 @@ use Rattle.syn_start.proofs.TheoryClauses.{found_symbol, spec_grows}
 
 -- inputs
 
-abbrev IsFine : SymbolTable → SymId → Type 0
-IsFine table id = IsApplication table id []
+-- the symbol may be applied to no arguments
+abbrev TakesNothing : SymbolTable → SymId → Type 0
+TakesNothing table id = IsApplication table id []
 
 module _ (table : SymbolTable) where
-  -- an input may be applied to no arguments
+  -- an input may
   input_applies : (id : SymId) (p : Param) → symbol_at table id ≡ Some (input_symbol p) → IsApplication table id []
   input_applies id p e = record { sym = input_symbol p; is = e; no_relation = λ k. absurd (cc); no_order = λ k. absurd (cc); sorts = refl }
 
-  inputs_apply : (ids : List SymId) (ps : List Param) → map (symbol_at table) ids ≡ map (λ (p : Param). Some (input_symbol p)) ps → All (IsFine table) ids
-  inputs_apply [] ps e = All-nil (IsFine table)
+  inputs_apply : (ids : List SymId) (ps : List Param) → map (symbol_at table) ids ≡ map (λ (p : Param). Some (input_symbol p)) ps → All (TakesNothing table) ids
+  inputs_apply [] ps e = All-nil (TakesNothing table)
   inputs_apply (id ∷ ids) [] e = absurd (cc)
   inputs_apply (id ∷ ids) (p ∷ ps) e =
       let first : symbol_at table id ≡ Some (input_symbol p) = cc in
       let others : map (symbol_at table) ids ≡ map (λ (q : Param). Some (input_symbol q)) ps = cc in
-      All-cons (IsFine table) id ids (input_applies id p first) (inputs_apply ids ps others)
+      All-cons (TakesNothing table) id ids (input_applies id p first) (inputs_apply ids ps others)
 
   -- an input with its own term
   record IsOwnInput (b : SymId × TermTree) : Type 0 where
@@ -90,8 +89,8 @@ module _ (table : SymbolTable) where
       let others : map (λ (c : SymId × TermTree). symbol_at table c.0) bs ≡ map (λ (q : Param). Some (input_symbol q)) ps = cc in
       ap₂ (λ (x : Option Sort) (xs : List (Option Sort)). x ∷ xs) (own_sort b p first (All-head IsOwnTerm b bs own)) (own_sorts bs ps others (All-tail IsOwnTerm b bs own))
 
-pub inputs_applied : (table : SymbolTable) (s : SpecTree) (ids : List SymId) → table ≡ s.table → map (symbol_at s.table) ids ≡ map (λ (p : Param). Some (input_symbol p)) s.head.inputs → All (IsFine table) ids
-inputs_applied table s ids t e = subst (λ (z : SymbolTable). All (IsFine z) ids) (sym t) (inputs_apply s.table ids s.head.inputs e)
+pub inputs_applied : (table : SymbolTable) (s : SpecTree) (ids : List SymId) → table ≡ s.table → map (symbol_at s.table) ids ≡ map (λ (p : Param). Some (input_symbol p)) s.head.inputs → All (TakesNothing table) ids
+inputs_applied table s ids t e = subst (λ (z : SymbolTable). All (TakesNothing z) ids) (sym t) (inputs_apply s.table ids s.head.inputs e)
 
 ids_at : (table : SymbolTable) (bs : List (SymId × TermTree)) → map (λ (b : SymId × TermTree). symbol_at table b.0) bs ≡ map (symbol_at table) (map (λ (b : SymId × TermTree). b.0) bs)
 ids_at table [] = refl
