@@ -1,5 +1,5 @@
 -- Of two rows that are one the same row is given, or of neither.
-use Rattle.std.proofs.Common.{◌≡◌, ◌≤◌, Option, None, Some, MatchOption, sym, ◌∙◌, ap, subst}
+use Rattle.std.proofs.Common.{◌≡◌, ◌≤◌, Option, None, Some, sym, ◌∙◌, ap, subst}
 use Rattle.syn_row.specs.Rows.{IsWithinRow, RowTree, bare_row, canonical_row, row_limit, simplified_row}
 use Rattle.syn_row.proofs.CanonicalRows.{renumbered_along, simplified_row-bare}
 use Rattle.syn_row.proofs.RowSizes.{depth-along, nodes-along}
@@ -22,8 +22,3 @@ given_one r s q e h = record { within = within_one (simplified_row r) (simplifie
 pub exactly_one : (r s : RowTree) (o : Option RowTree) → bare_row r ≡ bare_row s → Exactly (IsGiven r) o → Exactly (IsGiven s) o
 exactly_one r s None e h = λ q g. h q (given_one s r q (sym e) g)
 exactly_one r s (Some q) e h = given_one r s q e h
-
--- what the call says that makes canonical rows
-pub exactly_given : (r : RowTree) (o : Option RowTree) → MatchOption o (¬ (IsWithinRow (simplified_row r))) (λ q. IsWithinRow (simplified_row r) × (bare_row q ≡ bare_row (canonical_row r))) → Exactly (IsGiven r) o
-exactly_given r None h = λ q g. h g.within
-exactly_given r (Some q) h = record { within = h.0; is = h.1 }

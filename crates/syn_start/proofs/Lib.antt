@@ -10,3 +10,5 @@ pub mod SpecParts
 pub mod WithoutQuantifiers
 pub mod GoalRows
 pub mod Options
+pub mod RuleParts
+pub mod RuleLaws

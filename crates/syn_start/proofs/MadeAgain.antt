@@ -1,5 +1,5 @@
 -- Trees made once more: they are the same but for places, so what is plain stays so.
-use Rattle.std.proofs.Common.{◌≡◌, ℕ, ◌+◌, ◌<◌, List, [], ◌∷◌, ◌++◌, Option, None, All, append-nil, get_or, length, map, take, refl, sym, ◌∙◌, ap, subst}
+use Rattle.std.proofs.Common.{◌≡◌, ℕ, ◌+◌, ◌<◌, List, [], ◌∷◌, ◌++◌, Option, None, append-nil, get_or, length, map, take, refl, sym, ◌∙◌, ap, subst}
 use Rattle.std.proofs.lemmas.List.{map-append, take_more}
 use Rattle.std.specs.Option.{option_map}
 use Rattle.syn_term.specs.Bank.{Kept, Belongs, Extends-refl, Extends-trans}
@@ -30,7 +30,7 @@ put_none = by_term_cases (λ t. with_inputs [] t ≡ bare t)
     (λ p v. fold-Var (with_inputs_step []) p v ∙ sym (fold-Var bare_step p v))
     (λ p f args h. fold-App (with_inputs_step []) p f args ∙ (ap (application f) (map_same (with_inputs []) bare args h) ∙ sym (bare-App p f args)))
 
-put_nothing : (f : FormTree) → bare_form (form_with_inputs [] f) ≡ bare_form f
+pub put_nothing : (f : FormTree) → bare_form (form_with_inputs [] f) ≡ bare_form f
 put_nothing f =
     changes_alike (λ g. bare_form (form_with_inputs [] g)) bare_form (λ t. bare (with_inputs [] t)) bare
     (changes_after (form_with_inputs []) bare_form (with_inputs []) bare (changes_on (with_inputs [])) changes_bare) changes_bare (λ t. ap bare (put_none t) ∙ bare-twice t) f
@@ -42,9 +42,6 @@ row_one s f g o p e h = let k : bare_form g ≡ bare_form f = e ∙ put_nothing 
 
 pub assertion_plain : (table : SymbolTable) (f : FormTree) → IsPlainForm table f → IsPlain table (assertion_of f)
 assertion_plain table f h = record { form = h.formed; out = tt; sorts = subst HasOneSortEach (sym (append-nil (form_vars f))) h.sorts }
-
-pub all_alone : (P : TermTree → Type 0) (ts : List TermTree) → All P ts → All P (ts ++ [])
-all_alone P ts h = subst (All P) (sym (append-nil ts)) h
 
 -- a symbol may be applied to arguments that are the same but for places
 pub applies_along : (table : SymbolTable) (f : SymId) (args parts : List TermTree) → map bare parts ≡ map bare args → IsApplication table f args → IsApplication table f parts

@@ -1,19 +1,17 @@
 -- The ends of the code that makes the rows of clauses.
-use Rattle.std.proofs.Common.{◌≡◌, ℕ, List, Option, None, Some, MatchOption, map, sym, subst}
+use Rattle.std.proofs.Common.{◌≡◌, ℕ, List, Option, Some, MatchOption, map, sym, subst}
 use Rattle.std.specs.Option.{option_and_then, option_map}
 use Rattle.syn_term.specs.declared.sorts.SymId.{SymId}
 use Rattle.syn_term.specs.Symbols.{SymbolTable}
 use Rattle.syn_term.specs.Terms.{IsApplication, TermTree, application, bare}
-use Rattle.syn_form.specs.declared.trees.Form.TheVariants as form
-use Rattle.syn_form.specs.Trees.{FormTree, OutTree}
+use Rattle.syn_form.specs.Trees.{OutTree}
 use Rattle.syn_row.specs.Rows.{RowTree}
 use Rattle.syn_model.specs.declared.decl.Decl.{Decl}
 use Rattle.syn_model.specs.declared.decl.Decl.TheVariants as decl
 use Rattle.syn_model.specs.Declaring.{symbol_of_name}
 use Rattle.syn_model.specs.Tables.{table_of}
-use Rattle.syn_start.specs.Definitions.{defines_relation, equals_output}
+use Rattle.syn_start.specs.Definitions.{equals_output}
 use Rattle.syn_start.specs.Initial.{DefRow, Exactly, GivenOf, IsGiven, assertion_of, clause_at, clause_form}
-use Rattle.syn_start.specs.inner.Fine.{IsClauseOf, IsFunctionClause, IsRelationClause}
 use Rattle.syn_start.proofs.Canonical.{exactly_one}
 use Rattle.syn_start.proofs.ClauseForms.{call_is, call_row}
 
@@ -28,37 +26,17 @@ pub called_exactly : (f : SymId) (args : List TermTree) (body : OutTree) (call :
     → Exactly (IsGiven (assertion_of (equals_output call body))) o → Exactly (IsGiven (assertion_of (equals_output (application f args) body))) o
 called_exactly f args body call o e h = exactly_one (assertion_of (equals_output call body)) (assertion_of (equals_output (application f args) body)) o (call_row f args body call e) h
 
-module _ (table : SymbolTable) (f : SymId) (d : Decl) (args xs : List TermTree) (same : xs ≡ args) where
-  pub function_clause_is : (body : OutTree) → d ≡ decl.FunClause args body → IsClauseOf table f d → IsFunctionClause table f xs body
-  function_clause_is body is h = subst (λ (z : List TermTree). IsFunctionClause table f z body) (sym same) (subst (IsClauseOf table f) is h)
-
-  pub relation_clause_is : (body : FormTree) → d ≡ decl.RelClause args body → IsClauseOf table f d → IsRelationClause table f xs body
-  relation_clause_is body is h = subst (λ (z : List TermTree). IsRelationClause table f z body) (sym same) (subst (IsClauseOf table f) is h)
-
-  module _ (o : Option RowTree) where
-    pub function_exactly : (body : OutTree) → d ≡ decl.FunClause args body → Exactly (IsGiven (assertion_of (equals_output (application f xs) body))) o → Exactly (GivenOf (option_map assertion_of (clause_form f d))) o
-    function_exactly body is h =
-        subst (λ (z : Decl). Exactly (GivenOf (option_map assertion_of (clause_form f z))) o) (sym is) (subst (λ (z : List TermTree). Exactly (IsGiven (assertion_of (equals_output (application f z) body))) o) same h)
-
-    pub relation_exactly : (body : FormTree) → d ≡ decl.RelClause args body → Exactly (IsGiven (assertion_of (defines_relation (form.Atom f xs) body))) o → Exactly (GivenOf (option_map assertion_of (clause_form f d))) o
-    relation_exactly body is h =
-        subst (λ (z : Decl). Exactly (GivenOf (option_map assertion_of (clause_form f z))) o) (sym is) (subst (λ (z : List TermTree). Exactly (IsGiven (assertion_of (defines_relation (form.Atom f z) body))) o) same h)
+pub function_exactly : (f : SymId) (d : Decl) (args xs : List TermTree) → xs ≡ args → (o : Option RowTree) (body : OutTree) → d ≡ decl.FunClause args body
+    → Exactly (IsGiven (assertion_of (equals_output (application f xs) body))) o → Exactly (GivenOf (option_map assertion_of (clause_form f d))) o
+function_exactly f d args xs same o body is h =
+    subst (λ (z : Decl). Exactly (GivenOf (option_map assertion_of (clause_form f z))) o) (sym is) (subst (λ (z : List TermTree). Exactly (IsGiven (assertion_of (equals_output (application f z) body))) o) same h)
 
 module _ (ds : List Decl) (name : List ℕ) (k : ℕ) where
   abbrev NumberedRow : SymId → RowTree → Type 0
   NumberedRow f = GivenOf (option_map assertion_of (option_and_then (clause_form f) (clause_at ds name k)))
-
-  pub row_at : (f : SymId) (d : Decl) (o : Option RowTree) → clause_at ds name k ≡ Some d → Exactly (GivenOf (option_map assertion_of (clause_form f d))) o → Exactly (NumberedRow f) o
-  row_at f d o e h = subst (λ (z : Option Decl). Exactly (GivenOf (option_map assertion_of (option_and_then (clause_form f) z))) o) (sym e) h
-
-  pub no_row_at : (f : SymId) → clause_at ds name k ≡ None → Exactly (NumberedRow f) None
-  no_row_at f e = subst (λ (z : Option Decl). Exactly (GivenOf (option_map assertion_of (option_and_then (clause_form f) z))) None) (sym e) (λ q h. h)
 
   abbrev NamedRow : Option SymId → RowTree → Type 0
   NamedRow found = GivenOf (option_map assertion_of (option_and_then (λ f. option_and_then (clause_form f) (clause_at ds name k)) found))
 
   pub row_named : (f : SymId) (o : Option RowTree) → symbol_of_name (table_of ds) name ≡ Some f → Exactly (NumberedRow f) o → Exactly (DefRow ds name k) o
   row_named f o e h = subst (λ (z : Option SymId). Exactly (NamedRow z) o) (sym e) h
-
-  pub no_row_named : symbol_of_name (table_of ds) name ≡ None → Exactly (DefRow ds name k) None
-  no_row_named e = subst (λ (z : Option SymId). Exactly (NamedRow z) None) (sym e) (λ q h. h)

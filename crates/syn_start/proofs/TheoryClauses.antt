@@ -204,7 +204,7 @@ get_all : {A : Type 0} (P : A → Type 0) (xs : List A) (i : ℕ) (x : A) → sl
 get_all P xs i x e h = subst P (get_or_from_slice_get xs i x x e) (h i x (slice_get_within xs i x e))
 
 -- the symbol that is found by a name is the one that has it
-found_symbol : (table : SymbolTable) → IsTable table → (name : List ℕ) (f own : SymId) (s : Sym) → symbol_of_name table name ≡ Some f → symbol_at table own ≡ Some s → s.name ≡ name → own ≡ f
+pub found_symbol : (table : SymbolTable) → IsTable table → (name : List ℕ) (f own : SymId) (s : Sym) → symbol_of_name table name ≡ Some f → symbol_at table own ≡ Some s → s.name ≡ name → own ≡ f
 found_symbol table is name f own s defined at named = by (position (bytes_eq name) (names_of table)) refl defined
   where
     by : (o : Option ℕ) → position (bytes_eq name) (names_of table) ≡ o → option_map sym_id o ≡ Some f → own ≡ f

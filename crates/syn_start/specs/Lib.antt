@@ -1,5 +1,6 @@
 pub mod Definitions
 pub mod Derivations
 pub mod Initial
+pub mod Rules
 pub mod Starts
 pub mod inner

@@ -1,3 +1,4 @@
 pub mod Fine
 pub mod Goals
+pub mod Orders
 pub mod Under

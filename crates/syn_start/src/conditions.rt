@@ -24,7 +24,7 @@ fn stated(part: &SpecPart) -> Option<&Form>
 }
 
 /// The input condition; None where no part states it.
-fn required(parts: &[SpecPart]) -> Option<&Form>
+pub(crate) fn required(parts: &[SpecPart]) -> Option<&Form>
     ensures { MatchOption result (input_condition parts.now ≡ form.True) (λ f. input_condition parts.now ≡ f.now) }
 {
     for part in parts {

@@ -9,6 +9,8 @@ mod def_rows;
 mod definitions;
 mod derivation;
 mod goals;
+mod guard_rule;
+mod guard_rules;
 mod initial;
 mod owning;
 mod start;
