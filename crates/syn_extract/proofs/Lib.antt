@@ -1,2 +1,3 @@
-pub mod PrimitiveTrees
+pub mod ClosedTerms
 pub mod Listed
+pub mod PrimitiveTrees

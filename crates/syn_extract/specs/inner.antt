@@ -1,1 +1,2 @@
+pub mod ClosedForms
 pub mod Kinds
