@@ -20,8 +20,8 @@ use Rattle.syn_extract.specs.Final.{closed_step, closed_term}
 pub ruleset growth = (Extends-refl, Extends-trans)
 
 -- what is made so far, with one more
-pub made_more : {X Y : Type 0} (f g : X → Y) (ts done new : List X) (i : ℕ) (d x r : X) → i < length ts → x ≡ get_or ts i d → map f done ≡ map g (take i ts) → f r ≡ g x → new ≡ done ++ r ∷ [] → map f new ≡ map g (take (i + 1) ts)
-made_more {X} {Y} f g ts done new i d x r within is h e n =
+pub made_more : {X Z Y : Type 0} (f : Z → Y) (g : X → Y) (ts : List X) (done new : List Z) (i : ℕ) (d x : X) (r : Z) → i < length ts → x ≡ get_or ts i d → map f done ≡ map g (take i ts) → f r ≡ g x → new ≡ done ++ r ∷ [] → map f new ≡ map g (take (i + 1) ts)
+made_more {X} {Z} {Y} f g ts done new i d x r within is h e n =
     let a : map f new ≡ map f done ++ f r ∷ [] = ap (map f) n ∙ map-append f done (r ∷ []) in
     let b : map g (take (i + 1) ts) ≡ map g (take i ts) ++ g x ∷ [] = ap (map g) (take_more ts i d within ∙ ap (λ (z : X). take i ts ++ z ∷ []) (sym is)) ∙ map-append g (take i ts) (x ∷ []) in
     a ∙ (ap (λ (zs : List Y). zs ++ f r ∷ []) h ∙ (ap (λ (z : Y). map g (take i ts) ++ z ∷ []) e ∙ sym b))

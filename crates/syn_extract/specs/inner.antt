@@ -1,2 +1,3 @@
 pub mod ClosedForms
 pub mod Kinds
+pub mod SpecHeads

@@ -1,4 +1,4 @@
-// Formulas and outputs with each variable replaced by the default term of its sort.
+// Formulas with each variable replaced by the default term of its sort.
 ghost use Rattle.std.specs.Prelude.{◌≡◌, All, IfOk, map};
 ghost use Rattle.syn_term.specs.Bank.{Extends};
 ghost use Rattle.syn_form.specs.declared.trees.Form.TheVariants as form;
@@ -14,7 +14,7 @@ use std::alloc::Global;
 use syn_form::Form;
 use syn_term::{Bank, NoMemory, Shared, SymId, Symbols, Term};
 
-/// The atom so.
+/// The atom with its variables replaced.
 #[tactic(auto, using(crate::proofs::ClosedTerms::growth))]
 fn close_atom(
     alloc: Global,
@@ -31,7 +31,7 @@ fn close_atom(
     Ok(Form::Atom(r, Shared::new(alloc, args)?))
 }
 
-/// The equality so.
+/// The equality with its variables replaced.
 #[tactic(auto, using(crate::proofs::ClosedTerms::growth))]
 fn close_equality(
     alloc: Global,
@@ -75,7 +75,7 @@ pub(crate) fn close_form(
     }
 }
 
-/// The negation of the formula so.
+/// The negation of the formula with its variables replaced.
 #[cycle(forms)]
 #[tactic(auto, using(crate::proofs::ClosedTerms::growth))]
 fn close_negation(
@@ -94,7 +94,7 @@ fn close_negation(
     }
 }
 
-/// The `and` of the formulas so.
+/// The `and` of the formulas with their variables replaced.
 #[cycle(forms)]
 #[tactic(auto, using(crate::proofs::ClosedTerms::growth))]
 fn close_conjunction(
@@ -113,7 +113,7 @@ fn close_conjunction(
     }
 }
 
-/// The `or` of the formulas so.
+/// The `or` of the formulas with their variables replaced.
 #[cycle(forms)]
 #[tactic(auto, using(crate::proofs::ClosedTerms::growth))]
 fn close_disjunction(
@@ -132,7 +132,7 @@ fn close_disjunction(
     }
 }
 
-/// The implication so.
+/// The implication with its variables replaced.
 #[cycle(forms)]
 #[tactic(auto, using(crate::proofs::ClosedTerms::growth))]
 fn close_implication(
@@ -157,7 +157,7 @@ fn close_implication(
     }
 }
 
-/// Each of the formulas so.
+/// Each of the formulas with its variables replaced.
 #[cycle(forms)]
 #[tactic(auto, using(crate::proofs::ClosedTerms::growth))]
 fn close_forms(

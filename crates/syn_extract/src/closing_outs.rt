@@ -36,7 +36,7 @@ pub(crate) fn close_out(
     }
 }
 
-/// The choice so.
+/// The choice with its variables replaced.
 #[cycle(outs)]
 #[tactic(auto, using(crate::proofs::ClosedTerms::growth))]
 fn close_choice(
@@ -63,7 +63,7 @@ fn close_choice(
     }
 }
 
-/// Both outputs so.
+/// Both outputs with their variables replaced.
 #[cycle(outs)]
 #[tactic(auto, using(crate::proofs::ClosedTerms::growth))]
 fn close_arms(
