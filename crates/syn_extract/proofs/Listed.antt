@@ -1,5 +1,5 @@
 -- A name is on the `primitive` line exactly where it is among the names of one of the parts.
-use Rattle.std.proofs.Common.{◌≡◌, ◌↔◌, Any, IsTrue, List, Bool, Contains, refl, sym, subst}
+use Rattle.std.proofs.Common.{◌≡◌, ◌↔◌, Any, IsTrue, List, Bool, Contains, refl, subst}
 use Rattle.std.specs.List.{flat_map}
 use Rattle.syn_form.proofs.Lists.{Contains-flat_map, Contains-flat_map_from}
 

@@ -1,6 +1,5 @@
 -- For public contracts: final rows, and the program of a row.
 use Rattle.std.specs.Prelude.{Option, None, Some, IfSome}
-use Rattle.syn_term.specs.declared.sorts.Var.{Var}
 use Rattle.syn_term.specs.declared.term.Node.{Node, fold-Node}
 use Rattle.syn_term.specs.declared.term.Node.TheOpen.{Node-F}
 use Rattle.syn_term.specs.Symbols.{SymbolTable}

@@ -1,1 +1,3 @@
+pub mod ClosedForms
 pub mod Kinds
+pub mod SpecHeads
