@@ -5,6 +5,7 @@ ghost use Rattle.syn_term.specs.DeclaredSorts.{IsTable};
 ghost use Rattle.syn_model.specs.Declaring.{symbol_of_name};
 ghost use Rattle.syn_row.specs.Guards.{IsGuardRule, RuleBelongs};
 ghost use Rattle.syn_start.specs.Rules.{IsRuleOf, order_name};
+ghost use Rattle.syn_start.specs.Starts.{IsItsRule};
 ghost use Rattle.syn_start.specs.inner.Orders.{IsOrderOf};
 
 use crate::guard_rules::{named_order, own_condition, own_inputs};
@@ -69,7 +70,7 @@ pub(crate) fn guard_rule(
     bank: &mut Bank,
     spec: &Spec,
 ) -> Result<Option<GuardRule>, NoMemory>
-    ensures rule { IfOk result (λ o. MatchOption o (order_name (spec.now).parts ≡ None) (IsRuleOf spec.now)) }
+    ensures rule { IfOk result (IsItsRule spec.now) }
     ensures of { IfOk result (λ o. IfSome o (IsGuardRule (spec.now).table)) }
     ensures belongs { IfOk result (λ o. IfSome o (RuleBelongs bank.new)) }
     ensures extends { Extends bank.old bank.new }
