@@ -8,3 +8,4 @@ pub mod BroughtCalls
 pub mod PartsAt
 pub mod SameFigures
 pub mod ReflexAnswers
+pub mod Standing

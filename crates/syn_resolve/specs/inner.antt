@@ -1,3 +1,4 @@
 pub mod Answers
 pub mod Instances
 pub mod Reflexing
+pub mod Standing

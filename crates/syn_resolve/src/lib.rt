@@ -5,6 +5,7 @@
 mod brought;
 mod equality;
 mod instance;
+mod positions;
 mod reflexivity;
 mod splitting;
 
