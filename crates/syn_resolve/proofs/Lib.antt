@@ -9,3 +9,4 @@ pub mod PartsAt
 pub mod SameFigures
 pub mod ReflexAnswers
 pub mod Standing
+pub mod Grown

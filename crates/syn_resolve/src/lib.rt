@@ -7,6 +7,7 @@ mod equality;
 mod instance;
 mod positions;
 mod reflexivity;
+mod sizes;
 mod splitting;
 
 pub use equality::equality_at;
