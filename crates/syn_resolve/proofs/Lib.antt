@@ -10,3 +10,5 @@ pub mod SameFigures
 pub mod ReflexAnswers
 pub mod Standing
 pub mod Grown
+pub mod PartsStill
+pub mod MovedUnifier
