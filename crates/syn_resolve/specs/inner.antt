@@ -2,3 +2,4 @@ pub mod Answers
 pub mod Instances
 pub mod Reflexing
 pub mod Standing
+pub mod Resolving

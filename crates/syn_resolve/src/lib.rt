@@ -5,6 +5,7 @@
 mod brought;
 mod equality;
 mod instance;
+mod joining;
 mod positions;
 mod reflexivity;
 mod sizes;
