@@ -12,3 +12,4 @@ pub mod Standing
 pub mod Grown
 pub mod PartsStill
 pub mod MovedUnifier
+pub mod JointCalls

@@ -6,6 +6,7 @@ mod brought;
 mod equality;
 mod instance;
 mod joining;
+mod joint;
 mod positions;
 mod reflexivity;
 mod sizes;
