@@ -13,3 +13,4 @@ pub mod Grown
 pub mod PartsStill
 pub mod MovedUnifier
 pub mod JointCalls
+pub mod JointRows
