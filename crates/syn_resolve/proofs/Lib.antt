@@ -14,3 +14,4 @@ pub mod PartsStill
 pub mod MovedUnifier
 pub mod JointCalls
 pub mod JointRows
+pub mod PartsFormed

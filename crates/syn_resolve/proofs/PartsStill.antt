@@ -20,7 +20,7 @@ use Rattle.syn_resolve.specs.Resolution.{AreAt}
 use Rattle.syn_resolve.specs.inner.Standing.{Stand}
 
 -- no formula stands in a term
-no_form_in_term : (ks : List ℕ) (t : TermTree) (h : FormTree) → at_position ks (term t) ≡ Some (formula h) → ⊥
+pub no_form_in_term : (ks : List ℕ) (t : TermTree) (h : FormTree) → at_position ks (term t) ≡ Some (formula h) → ⊥
 no_form_in_term ks t h e = go (subterm_at ks t) (sym (at_position-term ks t) ∙ e)
   where
     go : (o : Option TermTree) → option_map term o ≡ Some (formula h) → ⊥

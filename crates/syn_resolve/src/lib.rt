@@ -7,6 +7,7 @@ mod equality;
 mod instance;
 mod joining;
 mod joint;
+mod parts;
 mod positions;
 mod reflexivity;
 mod sizes;

@@ -48,7 +48,7 @@ fn are_distinct(positions: &[Pos]) -> bool
 }
 
 /// The formula that stands at the position. None exactly where none does.
-fn formula_at<'a>(form: &'a Form, p: &Pos) -> Option<&'a Form>
+pub(crate) fn formula_at<'a>(form: &'a Form, p: &Pos) -> Option<&'a Form>
     ensures { MatchOption result ((g : FormTree) → at_position p.now (formula form.now) ≡ Some (formula g) → ⊥) (λ g. at_position p.now (formula form.now) ≡ Some (formula g.now)) }
 {
     match form.at(p) {

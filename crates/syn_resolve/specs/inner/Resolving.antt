@@ -3,6 +3,7 @@ use Rattle.std.specs.Prelude.{◌≡◌, ℕ, true, false, List, [], ◌∷◌, 
 use Rattle.syn_term.specs.declared.sorts.SymId.{SymId}
 use Rattle.syn_term.specs.Symbols.{SymbolTable}
 use Rattle.syn_term.specs.Terms.{TermTree}
+use Rattle.syn_form.specs.Positions.{at_position, formula}
 use Rattle.syn_form.specs.Replacing.{replaced_all}
 use Rattle.syn_form.specs.Substitutions.{IsUnifierOfForms, KeepsSorts, Substitution, UnifiesForms, substituted_form}
 use Rattle.syn_form.specs.Trees.{FormTree, OutTree, bare_form}
@@ -11,7 +12,7 @@ use Rattle.syn_row.specs.Calls.{calls_standing_form}
 use Rattle.syn_row.specs.Results.{Figure, Gives, chosen_out, joined_form, joined_side, out_list}
 use Rattle.syn_row.specs.Rows.{RowTree}
 use Rattle.syn_resolve.specs.Resolution.{AreAt, resolved}
-use Rattle.syn_resolve.specs.inner.Reflexing.{outputs_calls}
+use Rattle.syn_resolve.specs.inner.Reflexing.{FigureGives, outputs_calls}
 
 -- the row that comes of two instances, where their part p is replaced
 abbrev pub row_of_both : FormTree → RowTree → RowTree → List FormTree → RowTree
@@ -34,6 +35,30 @@ test_standing None v p f = []
 -- those of a step of two parents: brought into the outputs, and in the test
 abbrev pub calls_of_both : SymId → Substitution → FormTree → Option OutTree → Option OutTree → List TermTree
 calls_of_both f σ p first second = outputs_calls f σ (out_list first ++ out_list second) ++ test_standing first second p f
+
+-- a formula stands there
+abbrev pub HasPart : List ℕ → FormTree → Type 0
+HasPart at f = (h : FormTree) × (at_position at (formula f) ≡ Some (formula h))
+
+-- what the first row's part at a position, where the substitution is put into it, gives as the one formula
+abbrev pub PartGives : Option GuardRule → Substitution → List ℕ → RowTree → RowTree → Option RowTree → Type 0
+PartGives rule σ at first second o = (h p : FormTree) × (at_position at (formula first.form) ≡ Some (formula h)) × (bare_form (substituted_form σ h) ≡ bare_form p) × FigureGives (resolved rule σ p first second) o
+
+-- parts of both rows, and a most general unifier of these
+pub record UnifiesParts (table : SymbolTable) (ps qs : List (List ℕ)) (first second : RowTree) (σ : Substitution) : Type 0 where
+  pub first_parts : List FormTree
+  pub second_parts : List FormTree
+  pub first_there : AreAt ps first.form first_parts
+  pub second_there : AreAt qs second.form second_parts
+  pub general : IsUnifierOfForms table (first_parts ++ second_parts) σ
+
+-- the parts of both, one after another
+pub record PartsOfBoth (ps qs : List (List ℕ)) (f g : FormTree) (parts : List FormTree) : Type 0 where
+  pub first_parts : List FormTree
+  pub second_parts : List FormTree
+  pub first_there : AreAt ps f first_parts
+  pub second_there : AreAt qs g second_parts
+  pub is : parts ≡ first_parts ++ second_parts
 
 -- parts of both rows, a most general unifier of these, and the formula that they become
 pub record Unified (table : SymbolTable) (ps qs : List (List ℕ)) (first second : RowTree) : Type 0 where
