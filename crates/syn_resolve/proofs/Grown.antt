@@ -77,7 +77,7 @@ module _ (σ : Substitution) where
   pub row_grows : (r : RowTree) → row_nodes r ≤ row_nodes (substituted_row σ r)
   row_grows r = let a = form_grows r.form in let b = option_grows r.out in omega arith
 
-  outs_count : (o p : Option OutTree) → sum (map out_nodes (map (substituted_out σ) (out_list o ++ out_list p))) ≡ option_map_or out_nodes (option_map (substituted_out σ) o) 0 + option_map_or out_nodes (option_map (substituted_out σ) p) 0
+  pub outs_count : (o p : Option OutTree) → sum (map out_nodes (map (substituted_out σ) (out_list o ++ out_list p))) ≡ option_map_or out_nodes (option_map (substituted_out σ) o) 0 + option_map_or out_nodes (option_map (substituted_out σ) p) 0
   outs_count None None = omega arith
   outs_count None (Some p) = let a : sum (map out_nodes (substituted_out σ p ∷ [])) ≡ out_nodes (substituted_out σ p) + sum (map out_nodes []) = sum_cons out_nodes (substituted_out σ p) [] in omega arith
   outs_count (Some o) None = let a : sum (map out_nodes (substituted_out σ o ∷ [])) ≡ out_nodes (substituted_out σ o) + sum (map out_nodes []) = sum_cons out_nodes (substituted_out σ o) [] in omega arith

@@ -94,7 +94,7 @@ module _ (table : SymbolTable) (σ : Substitution) (keeps : KeepsSorts table σ)
 
 -- the variables of an instance of a row are among these
 module _ (σ : Substitution) (vars : List Var) (bound : AreAmong (bound_vars σ) vars) (r m : RowTree) (made : bare_row m ≡ bare_row (substituted_row σ r)) (among : AreAmong (row_vars r) vars) where
-  instance_form_among : AreAmong (form_vars m.form) vars
+  pub instance_form_among : AreAmong (form_vars m.form) vars
   instance_form_among w c = go (Contains-append_cases (form_vars r.form) (bound_vars σ) w (form_vars_from σ σ refl r.form m.form (ap (λ (z : RowTree). z.form) made ∙ substituted_form_under σ r.form) w c))
     where
       go : Contains (form_vars r.form) w ⊎ Contains (bound_vars σ) w → Contains vars w
@@ -249,3 +249,6 @@ module _ (bank : Kept) (p : FormTree) (a b : RowTree) (gs : List FormTree) (part
       (All-append (Belongs bank) f_terms (h_terms ++ forms_terms gs) (of_replaced true a ha) (All-append (Belongs bank) h_terms (forms_terms gs) (of_replaced false b hb) hg)))
       (All-within (Belongs bank) (option_map_or out_terms whole.out []) (form_terms p ++ (option_map_or out_terms a.out [] ++ option_map_or out_terms b.out [])) (join_laws.chosen_terms p a.out b.out)
       (All-append (Belongs bank) (form_terms p) (option_map_or out_terms a.out [] ++ option_map_or out_terms b.out []) part (All-append (Belongs bank) (option_map_or out_terms a.out []) (option_map_or out_terms b.out []) (of_out a ha) (of_out b hb))))
+
+pub joint_belongs : (bank : Kept) (p : FormTree) (a b : RowTree) (gs xs : List FormTree) → xs ≡ gs → All (Belongs bank) (form_terms p) → All (Belongs bank) (row_terms a) → All (Belongs bank) (row_terms b) → All (Belongs bank) (forms_terms gs) → All (Belongs bank) (row_terms (row_of_both p a b xs))
+joint_belongs bank p a b gs xs same part ha hb hg = subst (λ (z : List FormTree). All (Belongs bank) (row_terms (row_of_both p a b z))) (sym same) (whole_belongs bank p a b gs part ha hb hg)

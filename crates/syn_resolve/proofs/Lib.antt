@@ -15,3 +15,4 @@ pub mod MovedUnifier
 pub mod JointCalls
 pub mod JointRows
 pub mod PartsFormed
+pub mod JointAnswers

@@ -10,6 +10,7 @@ mod joint;
 mod parts;
 mod positions;
 mod reflexivity;
+mod resolving;
 mod sizes;
 mod splitting;
 

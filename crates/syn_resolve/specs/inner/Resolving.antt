@@ -1,16 +1,18 @@
 -- For private contracts: how two rows that are kept apart are resolved, and the row that comes of their instances.
-use Rattle.std.specs.Prelude.{◌≡◌, ℕ, true, false, List, [], ◌∷◌, ◌++◌, Option, None, Some, All}
+use Rattle.std.specs.Prelude.{◌≡◌, ℕ, true, false, List, [], ◌∷◌, ◌++◌, Option, None, Some, IfSome, All}
 use Rattle.syn_term.specs.declared.sorts.SymId.{SymId}
 use Rattle.syn_term.specs.Symbols.{SymbolTable}
 use Rattle.syn_term.specs.Terms.{TermTree}
+use Rattle.syn_form.specs.Plain.{HasOneSortEach, IsFormed, IsFormedOut}
 use Rattle.syn_form.specs.Positions.{at_position, formula}
 use Rattle.syn_form.specs.Replacing.{replaced_all}
 use Rattle.syn_form.specs.Substitutions.{IsUnifierOfForms, KeepsSorts, Substitution, UnifiesForms, substituted_form}
 use Rattle.syn_form.specs.Trees.{FormTree, OutTree, bare_form}
 use Rattle.syn_row.specs.declared.guards.GuardRule.{GuardRule}
 use Rattle.syn_row.specs.Calls.{calls_standing_form}
+use Rattle.syn_row.specs.JoinLaws.{GiveOneSort}
 use Rattle.syn_row.specs.Results.{Figure, Gives, chosen_out, joined_form, joined_side, out_list}
-use Rattle.syn_row.specs.Rows.{RowTree}
+use Rattle.syn_row.specs.Rows.{IsPlain, RowTree, bare_row, row_vars, substituted_row}
 use Rattle.syn_resolve.specs.Resolution.{AreAt, resolved}
 use Rattle.syn_resolve.specs.inner.Reflexing.{FigureGives, outputs_calls}
 
@@ -81,3 +83,16 @@ ApartGives table rule ps qs first second (Some q) = (u : Unified table ps qs fir
 ApartGives table rule ps qs first second None =
     (fs gs : List FormTree) → AreAt ps first.form fs → AreAt qs second.form gs → (τ : Substitution) → KeepsSorts table τ → UnifiesForms (fs ++ gs) τ
     → (u : Unified table ps qs first second) × ((q : RowTree) → UnifiedGives rule u q → ⊥)
+
+-- two plain rows in which no variable number has two sorts, and whose outputs give terms of one sort
+pub record IsPair (table : SymbolTable) (first second : RowTree) : Type 0 where
+  pub first_plain : IsPlain table first
+  pub second_plain : IsPlain table second
+  pub sorts : HasOneSortEach (row_vars first ++ row_vars second)
+  pub given : GiveOneSort table first.out second.out
+
+-- a formed row that is the instance of this row but for places
+pub record IsInstance (table : SymbolTable) (σ : Substitution) (r m : RowTree) : Type 0 where
+  pub is : bare_row m ≡ bare_row (substituted_row σ r)
+  pub formed : IsFormed table m.form
+  pub formed_out : IfSome m.out (IsFormedOut table)
