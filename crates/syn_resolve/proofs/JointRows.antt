@@ -79,7 +79,7 @@ module _ (table : SymbolTable) (σ : Substitution) (keeps : KeepsSorts table σ)
     at_if = λ f u v h k. ap (given_sort table) ((out_changes_substituted σ).at_if f u v) ∙ (fold-If (given_sort_step table) (substituted_form σ f) (substituted_out σ u) (substituted_out σ v) ∙ (h ∙ sym (fold-If (given_sort_step table) f u v)));
   }
 
-  given_along : (o p : OutTree) → bare_out p ≡ bare_out (substituted_out σ o) → given_sort table p ≡ given_sort table o
+  pub given_along : (o p : OutTree) → bare_out p ≡ bare_out (substituted_out σ o) → given_sort table p ≡ given_sort table o
   given_along o p e = sym (given_bare table p) ∙ (ap (given_sort table) e ∙ (given_bare table (substituted_out σ o) ∙ given_put o))
 
   sorts_along : (o u o' u' : Option OutTree) → option_map bare_out o' ≡ option_map bare_out (option_map (substituted_out σ) o) → option_map bare_out u' ≡ option_map bare_out (option_map (substituted_out σ) u) → GiveOneSort table o u → GiveOneSort table o' u'

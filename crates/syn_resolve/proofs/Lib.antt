@@ -16,3 +16,4 @@ pub mod JointCalls
 pub mod JointRows
 pub mod PartsFormed
 pub mod JointAnswers
+pub mod ApartAnswers

@@ -4,10 +4,10 @@ use Rattle.syn_form.specs.Positions.{at_position, formula}
 use Rattle.syn_form.specs.Trees.{FormTree}
 use Rattle.syn_resolve.specs.inner.Standing.{Puts, Stand}
 
-abbrev rest_of : List (List ℕ) → List (List ℕ)
+abbrev pub rest_of : List (List ℕ) → List (List ℕ)
 rest_of ps = take (length ps - 1) (drop 1 ps)
 
-first_and_rest : (ps : List (List ℕ)) (k : List ℕ) → 1 ≤ length ps → k ≡ get_or ps 0 k → ps ≡ k ∷ rest_of ps
+pub first_and_rest : (ps : List (List ℕ)) (k : List ℕ) → 1 ≤ length ps → k ≡ get_or ps 0 k → ps ≡ k ∷ rest_of ps
 first_and_rest [] k few e = absurd (omega arith)
 first_and_rest (p ∷ ps) k few e =
     let count : length (p ∷ ps) - 1 ≡ length ps = omega arith in

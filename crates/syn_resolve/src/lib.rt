@@ -16,4 +16,5 @@ mod splitting;
 
 pub use equality::equality_at;
 pub use reflexivity::reflex;
+pub use resolving::resolve;
 pub use splitting::{dual, split};
