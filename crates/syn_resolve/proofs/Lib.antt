@@ -8,3 +8,12 @@ pub mod BroughtCalls
 pub mod PartsAt
 pub mod SameFigures
 pub mod ReflexAnswers
+pub mod Standing
+pub mod Grown
+pub mod PartsStill
+pub mod MovedUnifier
+pub mod JointCalls
+pub mod JointRows
+pub mod PartsFormed
+pub mod JointAnswers
+pub mod ApartAnswers

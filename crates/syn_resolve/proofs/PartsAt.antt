@@ -95,3 +95,7 @@ sides_sorted table ks f s t e h =
 
 pub sides_belong : (bank : Kept) (ks : List ℕ) (f : FormTree) (s t : TermTree) → at_position ks (formula f) ≡ Some (formula (form.Equal s t)) → All (Belongs bank) (form_terms f) → Belongs bank s × Belongs bank t
 sides_belong bank = sides_have (Belongs bank) (λ p g args h. own_args bank (node_view.App p g args) p g args args refl refl h)
+
+-- so do the terms of a formula there
+pub form_belongs : (bank : Kept) (ks : List ℕ) (f h : FormTree) → at_position ks (formula f) ≡ Some (formula h) → All (Belongs bank) (form_terms f) → All (Belongs bank) (form_terms h)
+form_belongs bank ks f h = have_at (Belongs bank) (λ p g args h. own_args bank (node_view.App p g args) p g args args refl refl h) ks (formula f) (formula h)

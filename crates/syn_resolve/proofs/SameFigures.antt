@@ -77,10 +77,10 @@ guarded_same s f g gs hs e k =
 abbrev row_by : Side → FormTree → Option OutTree → RowTree
 row_by s f o = record { side = s; form = f; out = o }
 
-row_same : (s t : Side) (f g : FormTree) (o p : Option OutTree) → s ≡ t → f ≡ g → o ≡ p → row_by s f o ≡ row_by t g p
+pub row_same : (s t : Side) (f g : FormTree) (o p : Option OutTree) → s ≡ t → f ≡ g → o ≡ p → row_by s f o ≡ row_by t g p
 row_same s t f g o p a b c = ap (λ (z : Side). row_by z f o) a ∙ (ap (λ (z : FormTree). row_by t z o) b ∙ ap (λ (z : Option OutTree). row_by t g z) c)
 
-outs_same : (σ : Substitution) (o p : Option OutTree) → option_map bare_out p ≡ option_map bare_out (option_map (substituted_out σ) o) → map bare_out (out_list p) ≡ map bare_out (map (substituted_out σ) (out_list o))
+pub outs_same : (σ : Substitution) (o p : Option OutTree) → option_map bare_out p ≡ option_map bare_out (option_map (substituted_out σ) o) → map bare_out (out_list p) ≡ map bare_out (map (substituted_out σ) (out_list o))
 outs_same σ None None e = refl
 outs_same σ None (Some p) e = absurd (cc)
 outs_same σ (Some o) None e = absurd (cc)

@@ -1,3 +1,5 @@
 pub mod Answers
 pub mod Instances
 pub mod Reflexing
+pub mod Standing
+pub mod Resolving

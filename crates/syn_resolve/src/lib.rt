@@ -5,9 +5,16 @@
 mod brought;
 mod equality;
 mod instance;
+mod joining;
+mod joint;
+mod parts;
+mod positions;
 mod reflexivity;
+mod resolving;
+mod sizes;
 mod splitting;
 
 pub use equality::equality_at;
 pub use reflexivity::reflex;
+pub use resolving::resolve;
 pub use splitting::{dual, split};
