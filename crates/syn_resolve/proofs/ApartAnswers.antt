@@ -1,14 +1,13 @@
 -- What is answered of two rows kept apart, and of the two rows that they were.
-use Rattle.std.proofs.Common.{◌≡◌, ◌≤◌, ◌<◌, ◌+◌, ◌^◌, ℕ, inl, inr, ◌⊎◌, List, [], ◌∷◌, ◌++◌, Option, None, Some, All, Contains, IfSome, MatchOption, get_or, length, map, refl, sym, ◌∙◌, ap, subst, arith}
-use Rattle.std.specs.List.{flat_map}
+use Rattle.std.proofs.Common.{◌≡◌, ◌≤◌, ◌<◌, ◌+◌, ◌^◌, ℕ, inl, inr, ◌⊎◌, List, [], ◌∷◌, ◌++◌, Option, None, Some, All, Contains, IfSome, MatchOption, get_or, length, sym, ◌∙◌, ap, subst, arith}
 use Rattle.std.specs.Option.{option_map, option_map_or}
-use Rattle.std.proofs.lemmas.List.Elements.{All-append, All-nil, Contains-append_cases, Contains-append_left, Contains-append_right, Contains-get_or}
+use Rattle.std.proofs.lemmas.List.Elements.{All-append, Contains-append_cases, Contains-append_left, Contains-append_right, Contains-get_or}
 use Rattle.syn_term.specs.declared.sorts.Var.{Var}
 use Rattle.syn_term.specs.Symbols.{IsSort, SymbolTable}
-use Rattle.syn_term.specs.Terms.{TermTree, bare, variable_tree}
+use Rattle.syn_term.specs.Terms.{bare, variable_tree}
 use Rattle.syn_form.specs.Plain.{HasOneSortEach}
 use Rattle.syn_form.specs.Positions.{at_position, formula}
-use Rattle.syn_form.specs.Substitutions.{Binding, KeepsSorts, Substitution, UnifiesForms, image, substituted, substituted_form, substituted_out}
+use Rattle.syn_form.specs.Substitutions.{Binding, KeepsSorts, Substitution, UnifiesForms, substituted, substituted_form, substituted_out}
 use Rattle.syn_form.specs.Trees.{FormTree, OutTree, bare_form, bare_out, form_vars, out_vars, term_vars}
 use Rattle.syn_form.proofs.Lists.{Contains-flat_map, Contains-head}
 use Rattle.syn_form.proofs.TreeParts.{formula_is}

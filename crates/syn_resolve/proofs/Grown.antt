@@ -1,12 +1,11 @@
 -- An instance has no fewer nodes than what it is an instance of, so a light step has parents that are small together.
-use Rattle.std.proofs.Common.{◌≡◌, ◌≤◌, ◌+◌, ℕ, List, [], ◌∷◌, ◌++◌, Option, None, Some, All, map, get_or, sum, sym, ◌∙◌, ap, arith}
+use Rattle.std.proofs.Common.{◌≡◌, ◌≤◌, ◌+◌, ℕ, List, [], ◌∷◌, ◌++◌, Option, None, Some, All, map, get_or, sum, ◌∙◌, ap, arith}
 use Rattle.std.specs.Option.{option_map, option_map_or}
 use Rattle.std.proofs.lemmas.List.Elements.{All-head, All-tail}
 use Rattle.syn_term.specs.declared.term.Node.TheVariants as node
 use Rattle.syn_term.specs.Terms.{TermTree, nodes, nodes_step, nowhere}
 use Rattle.syn_term.proofs.Trees.{fold-App, fold-Var}
-use Rattle.syn_form.specs.Simplification.{chain}
-use Rattle.syn_form.specs.Substitutions.{Substitution, image, substituted, substituted_form, substituted_out}
+use Rattle.syn_form.specs.Substitutions.{Substitution, substituted, substituted_form, substituted_out}
 use Rattle.syn_form.specs.Trees.{FormTree, OutTree, form_nodes, out_nodes}
 use Rattle.syn_form.proofs.Equations.{form_nodes-Atom, form_nodes-Equal, form_nodes-Implies, form_nodes-Not, out_nodes-Give, out_nodes-If}
 use Rattle.syn_form.proofs.Inductions.{by_form_cases, by_out_cases}
@@ -14,7 +13,7 @@ use Rattle.syn_form.proofs.TermNodes.{by_term_cases}
 use Rattle.syn_row.specs.Results.{AreApart, IsLight, out_list}
 use Rattle.syn_row.specs.Rows.{RowTree, row_nodes, substituted_row}
 use Rattle.syn_row.proofs.Changes.{changes_substituted, out_changes_substituted}
-use Rattle.syn_row.proofs.Renaming.{substituted-App, substituted-Var}
+use Rattle.syn_row.proofs.Renaming.{substituted-App}
 use Rattle.syn_row.proofs.RowSizes.{nodes-along, nodes_of_chain}
 use Rattle.syn_unify.proofs.Changed.{sum_cons}
 use Rattle.syn_unify.proofs.Sizes.{nodes_some}

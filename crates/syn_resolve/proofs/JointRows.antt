@@ -5,7 +5,6 @@ use Rattle.std.specs.Option.{option_map, option_map_or}
 use Rattle.std.proofs.lemmas.List.{map-append}
 use Rattle.std.proofs.lemmas.List.Elements.{All-append, Contains-append_cases, Contains-append_left, Contains-append_right}
 use Rattle.syn_term.specs.Bank.{Belongs, Kept}
-use Rattle.syn_term.specs.declared.sorts.Sort.{Sort}
 use Rattle.syn_term.specs.declared.sorts.Var.{Var}
 use Rattle.syn_term.specs.Symbols.{SymbolTable}
 use Rattle.syn_term.specs.Terms.{TermTree, bare, sort_of}
@@ -26,7 +25,7 @@ use Rattle.syn_row.specs.declared.guards.GuardRule.{GuardRule}
 use Rattle.syn_row.specs.Calls.{forms_terms}
 use Rattle.syn_row.specs.Guards.{joined_guards}
 use Rattle.syn_row.specs.JoinLaws.{GiveOneSort}
-use Rattle.syn_row.specs.Results.{Figure, chosen_out, joined_form, joined_side, out_list}
+use Rattle.syn_row.specs.Results.{chosen_out, joined_form, joined_side, out_list}
 use Rattle.syn_row.specs.Rows.{IsPlain, RowTree, bare_row, row_terms, row_vars, substituted_row}
 use Rattle.syn_row.proofs.Agreeing.{AreAmong}
 use Rattle.syn_row.proofs.AllChanged.{all_changed}
@@ -35,7 +34,6 @@ use Rattle.syn_row.proofs.Joins.{join_laws}
 use Rattle.syn_row.proofs.Passed.{chosen_changed, joined_changed}
 use Rattle.syn_row.proofs.Telling.{bare-twice, forms_told}
 use Rattle.syn_unify.specs.Bindings.{bound_vars}
-use Rattle.syn_unify.specs.inner.Changes.{under}
 use Rattle.syn_unify.proofs.FormEnds.{substituted_form_under}
 use Rattle.syn_unify.proofs.FormsApplied.{form_vars_from, out_vars_from, substituted_out_under}
 use Rattle.syn_unify.proofs.Sorts.{image_holds, sort_under}

@@ -1,5 +1,5 @@
 -- A unifier of the parts of rows that are kept apart in one way makes one of those of the rows kept apart in another.
-use Rattle.std.proofs.Common.{◌≡◌, ℕ, List, [], ◌∷◌, ◌++◌, Some, All, Contains, map, get_or, sym, ◌∙◌, ap, subst}
+use Rattle.std.proofs.Common.{◌≡◌, ℕ, List, [], ◌++◌, Some, All, Contains, map, get_or, sym, ◌∙◌, ap, subst}
 use Rattle.std.specs.Option.{option_map_or}
 use Rattle.std.proofs.lemmas.List.{map-append}
 use Rattle.std.proofs.lemmas.List.Elements.{All-append, All-contains, Contains-append_left, Contains-get_or}
@@ -9,7 +9,7 @@ use Rattle.syn_term.specs.Terms.{TermTree, bare, nowhere}
 use Rattle.syn_form.specs.Substitutions.{KeepsSorts, Substitution, UnifiesForms, image, substituted, substituted_form}
 use Rattle.syn_form.specs.Trees.{FormTree, bare_form, form_vars, out_vars}
 use Rattle.syn_row.specs.Results.{AreApart}
-use Rattle.syn_row.specs.Rows.{IsPlain, RowTree, row_vars}
+use Rattle.syn_row.specs.Rows.{IsPlain, RowTree}
 use Rattle.syn_row.proofs.Agreeing.{AreAmong, forms_agree}
 use Rattle.syn_row.proofs.Alike.{renamed_form}
 use Rattle.syn_row.proofs.Changes.{changes_substituted}
@@ -20,7 +20,6 @@ use Rattle.syn_row.proofs.PartsMoved.{parts_among, parts_at_both}
 use Rattle.syn_row.proofs.Renaming.{image_by, renaming_by, substituted-Var, substituted-blind}
 use Rattle.syn_row.proofs.Taking.{Fits, image_sort, image_sorted, image_taking, keeps_taking, taking}
 use Rattle.syn_row.proofs.Telling.{form-along}
-use Rattle.syn_resolve.specs.Resolution.{AreAt}
 use Rattle.syn_resolve.specs.inner.Standing.{Stand}
 
 module _ (vars : List Var) (over : Var → Var) (τ : Substitution) where

@@ -1,7 +1,6 @@
 -- The formulas at positions of a formula stand there in its instances too, and in what is one with these.
-use Rattle.std.proofs.Common.{◌≡◌, ℕ, zero, suc, List, [], ◌∷◌, Option, None, Some, All, map, slice_get, refl, sym, ◌∙◌, ap, subst}
+use Rattle.std.proofs.Common.{◌≡◌, ℕ, zero, suc, List, [], ◌∷◌, Option, None, Some, map, slice_get, refl, sym, ◌∙◌, ap}
 use Rattle.std.specs.Option.{option_and_then, option_map}
-use Rattle.std.proofs.lemmas.List.Elements.{All-cons, All-nil}
 use Rattle.syn_term.specs.Terms.{TermTree, bare}
 use Rattle.syn_term.specs.Positions.{subterm_at}
 use Rattle.syn_form.specs.declared.trees.Form.{out-Form}

@@ -1,5 +1,5 @@
 -- What is appended of the formulas that stand at positions, and what stands there with it.
-use Rattle.std.proofs.Common.{◌≡◌, ◌≤◌, ◌-◌, ℕ, Bool, true, false, List, [], ◌∷◌, ◌++◌, Some, map, length, get_or, take, drop, take_all, append_assoc, refl, sym, ◌∙◌, ap, subst, arith}
+use Rattle.std.proofs.Common.{◌≡◌, ◌≤◌, ◌-◌, ℕ, Bool, true, false, List, [], ◌∷◌, ◌++◌, Some, length, get_or, take, drop, take_all, append_assoc, sym, ◌∙◌, ap, subst, arith}
 use Rattle.syn_form.specs.Positions.{at_position, formula}
 use Rattle.syn_form.specs.Trees.{FormTree}
 use Rattle.syn_resolve.specs.inner.Standing.{Puts, Stand}

@@ -77,7 +77,12 @@ fn put_outputs_calls(
 }
 
 /// The applications of the symbol that the substitution brings into the outputs.
-pub(crate) fn brought_calls(alloc: Global, f: SymId, s: &Subst, outs: &[Out]) -> Result<Items<Term>, NoMemory>
+pub(crate) fn brought_calls(
+    alloc: Global,
+    f: SymId,
+    s: &Subst,
+    outs: &[Out],
+) -> Result<Items<Term>, NoMemory>
     ensures { IfOk result (λ calls. calls ≡ outputs_calls f s.now outs.now) }
 {
     let mut calls = Items::new(alloc);

@@ -65,13 +65,7 @@ fn chosen_output(alloc: Global, p: &Form, a: &Row, b: &Row) -> Result<Option<Out
 }
 
 /// The row.
-fn joined_row(
-    alloc: Global,
-    p: &Form,
-    a: &Row,
-    b: &Row,
-    guards: &[Form],
-) -> Result<Row, NoMemory>
+fn joined_row(alloc: Global, p: &Form, a: &Row, b: &Row, guards: &[Form]) -> Result<Row, NoMemory>
     requires first { OfOneBank (form_terms (a.now).form ++ form_terms p.now) }
     requires second { OfOneBank (form_terms (b.now).form ++ form_terms p.now) }
     ensures { IfOk result (λ r. r ≡ row_of_both p.now a.now b.now guards.now) }

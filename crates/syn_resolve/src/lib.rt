@@ -1,5 +1,4 @@
-//! Rules on formulas: splitting, duality and reflexivity; and nonclausal resolution as a relation between rows. Each gives one
-//! row at most, which is a law. No function makes the rows of resolution yet.
+//! Rules on formulas: splitting, duality, reflexivity and nonclausal resolution. Each gives one row at most, which is a law.
 #![tactic(auto)]
 
 mod brought;

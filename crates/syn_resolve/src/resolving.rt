@@ -265,8 +265,7 @@ fn resolved_apart(
 ///
 /// None exactly where a list of positions is empty or has a position twice, no formula stands at one of the positions, no
 /// substitution that keeps sorts makes them one, the step has more than 65,536 nodes or a part deeper than 2,400, or what
-/// comes of it passes the limit of a row. The bank may have made nodes then, but not where both rows together have more than
-/// 65,536 nodes, which is found first. The one error is `NoMemory`.
+/// comes of it passes the limit of a row. The bank may have made nodes then. The one error is `NoMemory`.
 #[tactic(auto, using(crate::proofs::Growth::growth))]
 pub fn resolve(
     alloc: Global,

@@ -42,7 +42,7 @@ calls_of_both f σ p first second = outputs_calls f σ (out_list first ++ out_li
 abbrev pub HasPart : List ℕ → FormTree → Type 0
 HasPart at f = (h : FormTree) × (at_position at (formula f) ≡ Some (formula h))
 
--- what the first row's part at a position, where the substitution is put into it, gives as the one formula
+-- what the two rows give where the one formula is the instance of the first row's part at this position
 abbrev pub PartGives : Option GuardRule → Substitution → List ℕ → RowTree → RowTree → Option RowTree → Type 0
 PartGives rule σ at first second o = (h p : FormTree) × (at_position at (formula first.form) ≡ Some (formula h)) × (bare_form (substituted_form σ h) ≡ bare_form p) × FigureGives (resolved rule σ p first second) o
 

@@ -1,7 +1,6 @@
-use Rattle.std.proofs.Common.{◌≡◌, List, map, sym, ◌∙◌, ap, subst, All}
+use Rattle.std.proofs.Common.{◌≡◌, List, map, sym, ◌∙◌, ap, subst}
 use Rattle.std.specs.Option.{option_copied}
 use Rattle.std.proofs.lemmas.Result.{IfOk-weaker}
-use Rattle.syn_term.specs.Bank.{Belongs}
 use Rattle.syn_form.specs.Trees.{FormTree, bare_form, form_terms}
 use Rattle.syn_form.proofs.InputTerms.{all_still}
 use Rattle.syn_row.specs.Guards.{joined_guards}
