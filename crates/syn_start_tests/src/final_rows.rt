@@ -1,12 +1,21 @@
-// Rows that end a derivation, and rows that don't.
-use crate::samples::spec_of;
+// Rows that end a derivation, and rows that don't; and the programs of rows.
+ghost use Rattle.std.specs.Prelude.{◌≡◌, ◌↔◌, IsTrue, Some};
+ghost use Rattle.syn_form.specs.Plain as plain;
+ghost use Rattle.syn_form.specs.Plain.{IsFormedOut};
+ghost use Rattle.syn_model.specs.Specifications.{IsSpec};
+
+use crate::samples::{spec_of, spec_over, theory_of};
 use std::alloc::Global;
 use std::process::Abort;
 use std::test::Fail;
 use syn_cases::cut;
-use syn_extract::is_final;
+use syn_expr::{Scope, print_out};
+use syn_extract::{is_final, program_of};
+use syn_form::{Out, given_sort, is_formed_out};
+use syn_model::{Program, Spec, Theory};
+use syn_row::Row;
 use syn_row_cases::{read_row, scope_of};
-use syn_term::Bank;
+use syn_term::{Bank, Sort, Symbols};
 
 /// A specification, a row, and whether it is final.
 const FINAL: &str = "\
@@ -44,6 +53,86 @@ fn tells_final_rows(rt: HostRuntime) -> Result<(), Fail> {
         let (name, text) = cut(case, " / ");
         let got = is_final_text(alloc, name, text)?;
         assert_eq!(rt; got, want == "yes", "at {line}");
+    }
+    Ok(())
+}
+
+/// A specification, a row, and the body of its program.
+const PROGRAMS: &str = "\
+max2 / goal true | if le(a, b) then b else a => if le(a, b) then b else a
+max2 / goal true | ?1 => 0
+max2 / goal true => 0
+max2 / assert false | if ?2 = a then s(?1) else b => if 0 = a then 1 else b
+twice / goal true | if a = 0 then 0 else s(s(twice(p(a)))) => if a = 0 then 0 else s(s(twice(p(a))))
+twice / goal true | if not le(?3, a) and ?3 = ?4 then ?4 else p(?3) => if not le(0, a) and 0 = 0 then 0 else p(0)";
+
+/// Whether the output is formed over the specification's table.
+fn is_formed_over(spec: &Spec, out: &Out) -> bool
+    ensures { IsTrue result ↔ IsFormedOut (spec.now).table out.now }
+{
+    is_formed_out(spec.symbols(), out)
+}
+
+/// Whether the output gives a term of the sort.
+fn gives(syms: &Symbols, out: &Out, sort: Sort) -> bool
+    ensures { IsTrue result ↔ (plain.given_sort syms.now out.now ≡ Some sort) }
+{
+    given_sort(syms, out) == Some(sort)
+}
+
+/// Whether the output gives a term of the result's sort.
+fn gives_result(spec: &Spec, out: &Out) -> bool
+    ensures { IsTrue result ↔ (plain.given_sort (spec.now).table out.now ≡ Some (spec.now).head.result) }
+{
+    let (_, sort) = spec.output();
+    gives(spec.symbols(), out, sort)
+}
+
+/// The program of the row.
+fn program_of_row(alloc: Global, theory: &Theory, spec: &Spec, row: &Row) -> Result<Program, Fail>
+    requires { IsSpec (theory.now).decls spec.now }
+{
+    let mut bank = Bank::new(alloc);
+    match &row.out {
+        None => Ok(program_of(alloc, &mut bank, theory, spec, row)?),
+        Some(out) => {
+            if !is_formed_over(spec, out) {
+                return Err(Fail::new("no output"));
+            }
+            if !gives_result(spec, out) {
+                return Err(Fail::new("another sort"));
+            }
+            Ok(program_of(alloc, &mut bank, theory, spec, row)?)
+        }
+    }
+}
+
+fn body_text(alloc: Global, name: &str, text: &str) -> Result<String, Fail> {
+    let theory = theory_of(alloc)?;
+    let spec = spec_over(alloc, &theory, name)?;
+    let row = read_row(
+        alloc,
+        &mut Bank::new(alloc),
+        &scope_of(spec.symbols()),
+        text,
+    )?;
+    let program = program_of_row(alloc, &theory, &spec, &row)?;
+    let scope = Scope {
+        syms: program.symbols(),
+        names: &[],
+        rows: false,
+    };
+    Ok(print_out(alloc, &scope, program.body())?)
+}
+
+#[test]
+fn makes_programs(rt: HostRuntime) -> Result<(), Fail> {
+    let alloc = rt.alloc();
+    for line in PROGRAMS.lines() {
+        let (case, want) = cut(line, " => ");
+        let (name, text) = cut(case, " / ");
+        let got = body_text(alloc, name, text)?;
+        assert_eq!(rt; got.as_str(), want, "at {line}");
     }
     Ok(())
 }

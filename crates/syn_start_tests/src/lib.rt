@@ -1,4 +1,4 @@
-//! Tables of initial rows over a theory and some specifications, and of rows that are final or not.
+//! Tables of initial rows over a theory and some specifications, of rows that are final or not, and of the programs of rows.
 #![tactic(auto)]
 
 #[cfg(test)]

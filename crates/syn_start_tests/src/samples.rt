@@ -57,7 +57,7 @@ fn spec_text(name: &str) -> &'static str {
     }
 }
 
-fn theory_of(alloc: Global) -> Result<Theory, Fail> {
+pub fn theory_of(alloc: Global) -> Result<Theory, Fail> {
     match read_theory(alloc, &mut Bank::new(alloc), THEORY.as_bytes()) {
         Ok(theory) => Ok(theory),
         Err(_) => Err(Fail::new("no theory")),
@@ -77,7 +77,8 @@ pub fn start_of(alloc: Global, bank: &mut Bank, name: &str) -> Result<Start, Fai
     Ok(Start::new(alloc, bank, &theory, &spec)?)
 }
 
-fn spec_over(alloc: Global, theory: &Theory, name: &str) -> Result<Spec, Fail>
+/// The specification of this name, over the theory.
+pub fn spec_over(alloc: Global, theory: &Theory, name: &str) -> Result<Spec, Fail>
     ensures { IfOk result (IsSpec (theory.now).decls) }
 {
     let text = spec_text(name);
