@@ -1,8 +1,8 @@
-// The table of symbols of the rows.
+// The table of symbols of the rows, and positions in them.
 use std::alloc::Global;
 use std::test::Fail;
 use syn_cases::added;
-use syn_term::{Kind, Sort, Symbols};
+use syn_term::{Kind, Pos, Sort, Symbols, decimal_number};
 
 const NAT: Sort = Sort::Nat;
 
@@ -17,4 +17,15 @@ pub fn make_table(alloc: Global) -> Result<Symbols, Fail> {
     added(alloc, &mut syms, "a", Kind::Input, &[], Some(NAT))?;
     added(alloc, &mut syms, "b", Kind::Input, &[], Some(NAT))?;
     Ok(syms)
+}
+
+/// The position of the text: numbers below ten with points between, `-` for the root.
+pub fn pos_of(alloc: Global, text: &str) -> Result<Pos, Fail> {
+    let mut pos = Pos::root(alloc);
+    for step in text.split('.') {
+        if step != "-" {
+            pos.push(decimal_number(step).unwrap_or(0))?;
+        }
+    }
+    Ok(pos)
 }

@@ -1,5 +1,5 @@
 // What splitting, duality and reflexivity give.
-use crate::samples::make_table;
+use crate::samples::{make_table, pos_of};
 use std::alloc::Global;
 use std::process::Abort;
 use std::test::Fail;
@@ -7,7 +7,7 @@ use syn_cases::cut;
 use syn_resolve::{dual, reflex, split};
 use syn_row::is_plain_row;
 use syn_row_cases::{print_row, read_row, scope_of};
-use syn_term::{Bank, Pos, Symbols, decimal_number};
+use syn_term::{Bank, Symbols, decimal_number};
 
 /// A row, a member, and the row that splitting gives; `none` where it gives none.
 const SPLIT: &str = "\
@@ -57,17 +57,6 @@ enum Rule<'a> {
     Split(u32),
     Dual,
     Reflex(&'a str),
-}
-
-/// The position of the text: numbers below ten with points between, `-` for the root.
-fn pos_of(alloc: Global, text: &str) -> Result<Pos, Fail> {
-    let mut pos = Pos::root(alloc);
-    for step in text.split('.') {
-        if step != "-" {
-            pos.push(decimal_number(step).unwrap_or(0))?;
-        }
-    }
-    Ok(pos)
 }
 
 /// The text of what the rule gives of the row, `none` where it gives none.
