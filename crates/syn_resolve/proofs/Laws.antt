@@ -16,6 +16,7 @@ use Rattle.syn_resolve.specs.Resolution.{ReflexGives, ResolveGives, reflexed, re
 use Rattle.syn_resolve.specs.RuleLaws.{RuleLaws}
 use Rattle.syn_resolve.specs.Splitting.{SplitGives, Splits, conclusion, conjunct, disjunct, dual_of, plain_figure, premise}
 use Rattle.syn_row.proofs.Alike.{alike_gives, alike_one}
+use Rattle.syn_resolve.proofs.ReplaceLaws.{equal_one}
 use Rattle.syn_resolve.proofs.Choices.{ReflexChoice, ResolveChoice, reflex_alike, resolve_alike}
 
 -- one figure gives one row
@@ -95,4 +96,5 @@ rule_laws = record {
   dual_one = λ r p q a b. figure_one (plain_figure r (dual_of r)) p q a b;
   reflex_one = λ table rule r at p q is plain. reflex_one table rule is r plain at p q;
   resolve_one = λ table rule r s ps qs p q is plain_r plain_s. resolve_one table rule is r s plain_r plain_s ps qs p q;
+  equal_one = λ table rule r at way s place p q is plain_r plain_s. equal_one table rule is r at way s place plain_r plain_s p q;
 }

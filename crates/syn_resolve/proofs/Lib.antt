@@ -1,4 +1,5 @@
 pub mod Choices
+pub mod ReplaceLaws
 pub mod Laws
 pub mod Growth
 pub mod PartRows

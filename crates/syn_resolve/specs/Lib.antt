@@ -1,4 +1,5 @@
 pub mod Splitting
 pub mod Resolution
+pub mod Replacement
 pub mod RuleLaws
 pub mod inner

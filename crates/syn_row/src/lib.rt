@@ -26,7 +26,7 @@ pub use guarding::{call_guards, guard};
 pub use guards::GuardRule;
 pub use joining::{chosen, guarded, joined, joined_side};
 pub use limits::{ROW_DEPTH, ROW_NODES, is_within};
-pub use normalizing::canonical;
+pub use normalizing::{canonical, simplified};
 pub use occurrences::output_occurrences;
 pub use plain::is_plain_row;
 pub use rows::Row;

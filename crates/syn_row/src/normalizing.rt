@@ -29,8 +29,10 @@ fn simplified_output(alloc: Global, out: &Option<Out>) -> Result<Option<Out>, No
     }
 }
 
-/// The row, its formula and output simplified.
-fn simplified(alloc: Global, row: &Row) -> Result<Row, NoMemory>
+/// The row simplified: formula and output are. It is true where the row is, has no more nodes, no more depth and no
+/// variable that the row hasn't. It asks that the row's terms are of one bank; nothing is made in a bank. The one error is
+/// `NoMemory`.
+pub fn simplified(alloc: Global, row: &Row) -> Result<Row, NoMemory>
     requires { OfOneBank (row_terms row.now) }
     ensures { IfOk result (λ r. r ≡ simplified_row row.now) }
 {

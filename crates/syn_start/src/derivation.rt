@@ -49,6 +49,13 @@ impl Derivation {
         Ok(())
     }
 
+    /// The lines in their order.
+    pub fn lines(&self) -> &[(Step, Row)]
+        ensures { result.now ≡ self.now }
+    {
+        self.lines.as_slice()
+    }
+
     /// The line with this number, counted from 1; None exactly where there is none.
     pub fn get(&self, i: u32) -> Option<(&Step, &Row)>
         ensures { option_map (λ line. (line.0.now, line.1.now)) result ≡ line_at self.now i }

@@ -21,8 +21,7 @@ use Rattle.syn_row.specs.Guards.{IsGuardRule}
 use Rattle.syn_row.specs.Results.{AreApart, Figure, Gives, joined_form, joined_side}
 use Rattle.syn_row.specs.Rows.{IsPlain, RowTree, bare_row}
 use Rattle.syn_row.proofs.Renaming.{Within, renaming_by}
-use Rattle.syn_replace.specs.Replacement.{EqualGives, looked_for, put_there, replaced}
-use Rattle.syn_replace.specs.ReplaceLaws.{ReplaceLaws}
+use Rattle.syn_resolve.specs.Replacement.{EqualGives, looked_for, put_there, replaced}
 use Rattle.syn_row.proofs.Agreeing.{AreAmong}
 use Rattle.syn_row.proofs.Alike.{AreAlike, alike_gives, alike_one, renamed_form}
 use Rattle.syn_row.proofs.General.{Passes, image_vars}
@@ -186,6 +185,3 @@ module _ (table : SymbolTable) (rule : Option GuardRule) (is : IfSome rule (IsGu
     -- what one choice gives, each choice gives
     pub equal_any : (q : RowTree) (c : ReplaceChoice table r at way s place) → EqualGives table rule r at way s place q → Gives (replace_figure table rule r at way s place c) q
     equal_any q c g = alike_gives (replace_figure table rule r at way s place (replace_choice q g)) (replace_figure table rule r at way s place c) q (replace_alike (replace_choice q g) c) g.gives
-
-pub replace_laws : ReplaceLaws
-replace_laws = record { equal_one = λ table rule r at way s place p q is plain_r plain_s. equal_one table rule is r at way s place plain_r plain_s p q }

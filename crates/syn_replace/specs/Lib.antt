@@ -1,2 +1,0 @@
-pub mod Replacement
-pub mod ReplaceLaws
