@@ -3,12 +3,11 @@ ghost use Rattle.std.specs.Prelude.{All};
 ghost use Rattle.syn_term.specs.Bank.{Belongs};
 ghost use Rattle.syn_row.specs.Rows.{row_terms};
 
-use crate::samples::make_table;
 use std::alloc::Global;
 use std::test::Fail;
 use syn_form::Form;
 use syn_row::{Row, canonical, is_plain_row};
-use syn_row_cases::{print_row, read_row, scope_of};
+use syn_row_cases::{make_table, print_row, read_row, scope_of};
 use syn_term::{Bank, Shared, Symbols};
 
 /// The text, behind another that is repeated.

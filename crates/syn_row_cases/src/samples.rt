@@ -1,7 +1,12 @@
-// The table of symbols of the rows, and positions in them.
+// A table of symbols for rows, positions in them, and whether outputs go together.
+ghost use Rattle.std.specs.Prelude.{◌↔◌, IsTrue};
+ghost use Rattle.syn_row.specs.JoinLaws.{GiveOneSort};
+
+use sqlite_items::Items;
 use std::alloc::Global;
 use std::test::Fail;
 use syn_cases::added;
+use syn_form::{Out, given_sort};
 use syn_term::{Kind, Pos, Sort, Symbols, decimal_number};
 
 const NAT: Sort = Sort::Nat;
@@ -28,4 +33,26 @@ pub fn pos_of(alloc: Global, text: &str) -> Result<Pos, Fail> {
         }
     }
     Ok(pos)
+}
+
+/// The positions of the text, with commas between.
+pub fn positions_of(alloc: Global, text: &str) -> Result<Items<Pos>, Fail> {
+    let mut positions = Items::new(alloc);
+    for part in text.split(',') {
+        positions.push(pos_of(alloc, part)?)?;
+    }
+    Ok(positions)
+}
+
+/// Whether both outputs, where both are there, give terms of one sort.
+pub fn give_one_sort(syms: &Symbols, first: &Option<Out>, second: &Option<Out>) -> bool
+    ensures { IsTrue result ↔ GiveOneSort syms.now first.now second.now }
+{
+    match first {
+        None => true,
+        Some(u) => match second {
+            None => true,
+            Some(v) => given_sort(syms, u) == given_sort(syms, v),
+        },
+    }
 }

@@ -1,19 +1,15 @@
 // What resolution gives.
-ghost use Rattle.std.specs.Prelude.{◌↔◌, All, IsTrue};
+ghost use Rattle.std.specs.Prelude.{All};
 ghost use Rattle.syn_term.specs.Bank.{Belongs};
-ghost use Rattle.syn_row.specs.JoinLaws.{GiveOneSort};
 ghost use Rattle.syn_row.specs.Rows.{row_terms};
 
-use crate::samples::{make_table, pos_of};
-use sqlite_items::Items;
 use std::alloc::Global;
 use std::process::Abort;
 use std::test::Fail;
 use syn_cases::cut;
-use syn_form::{Out, given_sort};
 use syn_resolve::resolve;
 use syn_row::{Row, is_plain_row};
-use syn_row_cases::{print_row, read_row, scope_of};
+use syn_row_cases::{give_one_sort, make_table, positions_of, print_row, read_row, scope_of};
 use syn_term::{Bank, Pos, Symbols};
 
 /// Two rows, each with its positions, and the row that resolution gives without guards; `none` where it gives none.
@@ -30,28 +26,6 @@ goal le(a, b) | a @ -,- / assert le(a, b) @ - => none
 goal le(a, b) | a @ - / assert le(a, b) @ 3 => none
 goal le(a, ?3) | s(?3) @ - / goal not le(a, ?3) | ?3 @ 1 => goal true | if le(a, ?1) then s(?1) else ?1
 goal not le(a, b) @ 1 / goal not le(a, b) @ 1 => goal false";
-
-/// Whether both outputs, where both are there, give terms of one sort.
-fn give_one_sort(syms: &Symbols, first: &Option<Out>, second: &Option<Out>) -> bool
-    ensures { IsTrue result ↔ GiveOneSort syms.now first.now second.now }
-{
-    match first {
-        None => true,
-        Some(u) => match second {
-            None => true,
-            Some(v) => given_sort(syms, u) == given_sort(syms, v),
-        },
-    }
-}
-
-/// The positions of the text, with commas between.
-fn positions_of(alloc: Global, text: &str) -> Result<Items<Pos>, Fail> {
-    let mut positions = Items::new(alloc);
-    for part in text.split(',') {
-        positions.push(pos_of(alloc, part)?)?;
-    }
-    Ok(positions)
-}
 
 /// The row that resolution gives of the two.
 fn resolvent(

@@ -1,12 +1,11 @@
 // What splitting, duality and reflexivity give.
-use crate::samples::{make_table, pos_of};
 use std::alloc::Global;
 use std::process::Abort;
 use std::test::Fail;
 use syn_cases::cut;
 use syn_resolve::{dual, reflex, split};
 use syn_row::is_plain_row;
-use syn_row_cases::{print_row, read_row, scope_of};
+use syn_row_cases::{make_table, pos_of, print_row, read_row, scope_of};
 use syn_term::{Bank, Symbols, decimal_number};
 
 /// A row, a member, and the row that splitting gives; `none` where it gives none.
