@@ -1,0 +1,61 @@
+// The guards of steps, where an order is named, and that there are none without. A line `axiom x` hands in a row.
+use crate::given::first_wrong;
+use std::process::Abort;
+use std::test::Fail;
+
+/// With an input condition: of calls in the first output, in the second, in the test; of one parent alone; in assertions; by
+/// resolution, reflexivity and equality replacement.
+const BOUND: &str = "\
+1 axiom x: goal ?1 = s(twice(twice(0))) | ?1
+2 reflex 1 -: goal below(twice(0), a) and le(0, twice(0)) and below(0, a) and le(0, 0) | s(twice(twice(0)))
+3 axiom x: goal le(?1, twice(1)) | ?1
+4 axiom x: goal not le(twice(0), ?1) | ?1
+5 resolve 3 - 4 1: goal below(0, a) and le(0, 0) and below(1, a) and le(0, 1) | if le(twice(0), twice(1)) then twice(0) else twice(1)
+6 axiom x: goal le(twice(0), a) | 0
+7 axiom x: goal not le(twice(0), a) | a
+8 resolve 6 - 7 1: goal below(0, a) and le(0, 0) | if le(twice(0), a) then 0 else a
+9 axiom x: assert le(twice(0), a)
+10 resolve 6 - 9 -: goal true | 0
+11 axiom x: assert le(a, ?1) and ?1 = twice(0) | ?1
+12 reflex 11 2: assert le(a, twice(0)) or not (below(0, a) and le(0, 0)) | twice(0)
+13 axiom x: assert le(?1, a) and le(?1, 0) | ?1
+14 axiom x: assert le(twice(0), a) or le(a, 0)
+15 resolve 13 1 14 1: assert le(twice(0), 0) or le(a, 0) or not (below(0, a) and le(0, 0)) | twice(0)
+16 axiom x: assert not le(twice(0), a)
+17 axiom x: goal not le(?1, a) | ?1
+18 resolve 16 1 17 1: goal below(0, a) and le(0, 0) | twice(0)
+19 axiom x: assert twice(0) = a
+20 axiom x: goal le(?1, 0) | ?1
+21 equal 19 - lr 20 1: goal le(a, 0) and below(0, a) and le(0, 0) | twice(0)
+22 axiom x: goal not twice(0) = a | a
+23 axiom x: goal le(twice(0), 0) | 0
+24 equal 22 1 lr 23 1: goal le(a, 0) and below(0, a) and le(0, 0) | if twice(0) = a then 0 else a
+25 dual 2: assert not (below(twice(0), a) and le(0, twice(0)) and below(0, a) and le(0, 0)) | s(twice(twice(0)))";
+
+/// Without an input condition.
+const UNBOUND: &str = "\
+1 axiom x: goal ?1 = s(twice(twice(0))) | ?1
+2 reflex 1 -: goal below(twice(0), a) and below(0, a) | s(twice(twice(0)))";
+
+/// Without an order.
+const PLAIN: &str = "\
+1 axiom x: goal ?1 = s(same(0)) | ?1
+2 reflex 1 -: goal true | s(same(0))";
+
+/// A program that would call itself on whatever it likes has a guard that is never met.
+const LOOPING: &str = "\
+1 goal: goal r(?1) | ?1
+2 induct: assert below(?1, a) -> r(f(?1))
+3 axiom loose: assert below(?1, ?2) or r(?3)
+4 resolve 2 1 3 1: assert r(f(?1)) or r(?2)
+5 resolve 1 - 4 1,2: goal below(?1, a) | f(?1)";
+
+#[test]
+fn guards_calls(rt: HostRuntime) -> Result<(), Fail> {
+    let alloc = rt.alloc();
+    assert!(rt; first_wrong(alloc, "bound", BOUND)?.is_none(), "bound");
+    assert!(rt; first_wrong(alloc, "twice", UNBOUND)?.is_none(), "unbound");
+    assert!(rt; first_wrong(alloc, "same", PLAIN)?.is_none(), "plain");
+    assert!(rt; first_wrong(alloc, "looping", LOOPING)?.is_none(), "looping");
+    Ok(())
+}

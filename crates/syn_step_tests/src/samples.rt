@@ -1,0 +1,166 @@
+// Theories, and specifications over them.
+ghost use Rattle.std.specs.Prelude.{IfOk, IfSome};
+ghost use Rattle.syn_row.specs.Guards.{RuleBelongs};
+ghost use Rattle.syn_model.specs.Specifications.{IsSpec};
+
+use std::alloc::Global;
+use std::test::Fail;
+use syn_files::{read_spec, read_theory};
+use syn_model::{Spec, Theory};
+use syn_start::Start;
+use syn_term::Bank;
+
+const BASICS: &str = "\
+theory basics
+fun p(nat): nat
+clause p(0) = 0
+clause p(s(x)) = x
+fun dbl(nat): nat
+clause dbl(0) = 0
+clause dbl(s(x)) = s(s(dbl(x)))
+rel le(nat, nat)
+clause le(x, 0) <-> x = 0
+clause le(x, s(y)) <-> x = s(y) or le(x, y)
+rel r(nat)
+clause r(x) <-> true
+order below(x: nat) by x
+";
+
+const LISTS: &str = "\
+theory lists
+sort L = nil | cons(nat, L)
+fun head(L): nat
+clause head(nil) = 0
+clause head(cons(x, y)) = x
+fun tail(L): L
+clause tail(nil) = nil
+clause tail(cons(x, y)) = y
+fun app(L, L): L
+clause app(nil, w) = w
+clause app(cons(x, y), w) = cons(x, app(y, w))
+fun len(L): nat
+clause len(nil) = 0
+clause len(cons(x, y)) = s(len(y))
+order shorter(x: L, w: L) by len(x)
+";
+
+const SAME: &str = "\
+spec same
+program same(a: nat): z: nat
+ensures z = a
+";
+
+const TWO: &str = "\
+spec two
+program two(a: nat, b: nat): z: nat
+requires le(a, b)
+ensures z = dbl(0)
+";
+
+const MAX2: &str = "\
+spec max2
+program max2(a: nat, b: nat): z: nat
+ensures le(a, z) and le(b, z) and (z = a or z = b)
+primitive le
+";
+
+const TWICE: &str = "\
+spec twice
+program twice(a: nat): z: nat
+ensures z = dbl(a)
+order below
+primitive p
+";
+
+const BOUND: &str = "\
+spec bound
+program twice(a: nat): z: nat
+requires le(0, a)
+ensures z = dbl(a)
+order below
+primitive p
+";
+
+const OVER: &str = "\
+spec over
+program over(a: nat, b: nat): z: nat
+requires le(a, b)
+ensures le(a, z) and z = s(b)
+";
+
+const LOOPING: &str = "\
+spec looping
+program f(a: nat): z: nat
+ensures r(z)
+order below
+primitive r
+";
+
+const JOIN: &str = "\
+spec join
+program join(a: L, b: L): z: L
+ensures z = app(a, b)
+order shorter
+primitive head, tail
+";
+
+const ANY: &str = "\
+spec any
+program any(a: nat): z: nat
+requires false
+ensures z = s(z)
+";
+
+const FREE: &str = "\
+spec free
+program free(a: nat): z: nat
+ensures z = z
+";
+
+fn spec_text(name: &str) -> &'static str {
+    match name {
+        "same" => SAME,
+        "two" => TWO,
+        "max2" => MAX2,
+        "twice" => TWICE,
+        "bound" => BOUND,
+        "over" => OVER,
+        "looping" => LOOPING,
+        "any" => ANY,
+        "free" => FREE,
+        _ => JOIN,
+    }
+}
+
+fn theory_of(alloc: Global, name: &str) -> Result<Theory, Fail> {
+    let text = if name == "join" { LISTS } else { BASICS };
+    match read_theory(alloc, &mut Bank::new(alloc), text.as_bytes()) {
+        Ok(theory) => Ok(theory),
+        Err(_) => Err(Fail::new("no theory")),
+    }
+}
+
+fn spec_over(alloc: Global, theory: &Theory, name: &str) -> Result<Spec, Fail>
+    ensures { IfOk result (IsSpec (theory.now).decls) }
+{
+    let text = spec_text(name);
+    match read_spec(alloc, &mut Bank::new(alloc), theory, text.as_bytes()) {
+        Ok(spec) => Ok(spec),
+        Err(_) => Err(Fail::new("no specification")),
+    }
+}
+
+/// What a derivation for the specification of this name begins with.
+pub fn start_of(alloc: Global, bank: &mut Bank, name: &str) -> Result<Start, Fail>
+    ensures { IfOk result (λ s. IfSome s.rule (RuleBelongs bank.new)) }
+{
+    let theory = theory_of(alloc, name)?;
+    let spec = spec_over(alloc, &theory, name)?;
+    if !theory.is_whole() {
+        return Err(Fail::new("a clause is missing"));
+    }
+    if !spec.is_whole() {
+        return Err(Fail::new("no output condition"));
+    }
+    Ok(Start::new(alloc, bank, &theory, &spec)?)
+}
