@@ -5,6 +5,8 @@
 #[cfg(test)]
 mod accepted;
 #[cfg(test)]
+mod chain;
+#[cfg(test)]
 mod derivations;
 #[cfg(test)]
 mod given;

@@ -132,30 +132,24 @@ fn spec_text(name: &str) -> &'static str {
     }
 }
 
-fn theory_of(alloc: Global, name: &str) -> Result<Theory, Fail> {
-    let text = if name == "join" { LISTS } else { BASICS };
-    match read_theory(alloc, &mut Bank::new(alloc), text.as_bytes()) {
-        Ok(theory) => Ok(theory),
-        Err(_) => Err(Fail::new("no theory")),
-    }
-}
-
-fn spec_over(alloc: Global, theory: &Theory, name: &str) -> Result<Spec, Fail>
+fn read_over(alloc: Global, theory: &Theory, text: &str) -> Result<Spec, Fail>
     ensures { IfOk result (IsSpec (theory.now).decls) }
 {
-    let text = spec_text(name);
     match read_spec(alloc, &mut Bank::new(alloc), theory, text.as_bytes()) {
         Ok(spec) => Ok(spec),
         Err(_) => Err(Fail::new("no specification")),
     }
 }
 
-/// What a derivation for the specification of this name begins with.
-pub fn start_of(alloc: Global, bank: &mut Bank, name: &str) -> Result<Start, Fail>
+/// What a derivation begins with, for a specification over a theory, both as texts.
+pub fn start_from(alloc: Global, bank: &mut Bank, theory: &str, spec: &str) -> Result<Start, Fail>
     ensures { IfOk result (λ s. IfSome s.rule (RuleBelongs bank.new)) }
 {
-    let theory = theory_of(alloc, name)?;
-    let spec = spec_over(alloc, &theory, name)?;
+    let theory = match read_theory(alloc, &mut Bank::new(alloc), theory.as_bytes()) {
+        Ok(theory) => theory,
+        Err(_) => return Err(Fail::new("no theory")),
+    };
+    let spec = read_over(alloc, &theory, spec)?;
     if !theory.is_whole() {
         return Err(Fail::new("a clause is missing"));
     }
@@ -163,4 +157,12 @@ pub fn start_of(alloc: Global, bank: &mut Bank, name: &str) -> Result<Start, Fai
         return Err(Fail::new("no output condition"));
     }
     Ok(Start::new(alloc, bank, &theory, &spec)?)
+}
+
+/// The same for the specification of this name.
+pub fn start_of(alloc: Global, bank: &mut Bank, name: &str) -> Result<Start, Fail>
+    ensures { IfOk result (λ s. IfSome s.rule (RuleBelongs bank.new)) }
+{
+    let theory = if name == "join" { LISTS } else { BASICS };
+    start_from(alloc, bank, theory, spec_text(name))
 }
