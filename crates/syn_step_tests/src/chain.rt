@@ -31,7 +31,7 @@ fn put_function(text: &mut String, j: u32) -> Result<(), Fail> {
         return Ok(text.push_str("(x) = s(x)\n")?);
     }
     text.push_str("(x) = s(k")?;
-    put_number(text, j - 1)?;
+    put_number(text, j.saturating_sub(1))?;
     Ok(text.push_str("(x))\n")?)
 }
 
@@ -72,7 +72,7 @@ fn put_assertion(text: &mut String, j: u32) -> Result<(), Fail> {
     text.push_str("(?1) = s(")?;
     if j > 1 {
         text.push_str("k")?;
-        put_number(text, j - 1)?;
+        put_number(text, j.saturating_sub(1))?;
         return Ok(text.push_str("(?1))")?);
     }
     Ok(text.push_str("?1)")?)
@@ -80,18 +80,20 @@ fn put_assertion(text: &mut String, j: u32) -> Result<(), Fail> {
 
 /// The two lines of the i-th definition, counted from the last one.
 fn put_unfolding(text: &mut String, i: u32, length: u32) -> Result<(), Fail> {
+    let j = length.saturating_sub(i);
+    let row = i.saturating_mul(2).saturating_add(1);
     text.push_str("\n0 def k")?;
-    put_number(text, length - i)?;
+    put_number(text, j)?;
     text.push_str(" 1: ")?;
-    put_assertion(text, length - i)?;
+    put_assertion(text, j)?;
     text.push_str("\n0 equal ")?;
-    put_number(text, 2 * i + 2)?;
+    put_number(text, row.saturating_add(1))?;
     text.push_str(" - lr ")?;
-    put_number(text, 2 * i + 1)?;
+    put_number(text, row)?;
     text.push_str(" 2")?;
     put_times(text, ".1", i)?;
     text.push_str(": ")?;
-    put_goal(text, i + 1, length - i - 1)
+    put_goal(text, i.saturating_add(1), j.saturating_sub(1))
 }
 
 fn lines_text(alloc: Global, length: u32) -> Result<String, Fail> {
@@ -101,7 +103,7 @@ fn lines_text(alloc: Global, length: u32) -> Result<String, Fail> {
         put_unfolding(&mut text, i, length)?;
     }
     text.push_str("\n0 reflex ")?;
-    put_number(&mut text, 2 * length + 1)?;
+    put_number(&mut text, length.saturating_mul(2).saturating_add(1))?;
     text.push_str(" -: goal true | ")?;
     put_times(&mut text, "s(", length)?;
     text.push_str("a")?;
