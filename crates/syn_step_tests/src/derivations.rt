@@ -29,7 +29,8 @@ pub const TWICE: &str = "\
 11 equal 10 1 lr 1 2.1: goal ?1 = dbl(0) | if a = 0 then ?1 else s(s(twice(p(a))))
 12 def dbl 1: assert dbl(0) = 0
 13 equal 12 - lr 11 2: goal ?1 = 0 | if a = 0 then ?1 else s(s(twice(p(a))))
-14 reflex 13 -: goal true | if a = 0 then 0 else s(s(twice(p(a))))";
+14 reflex 13 -: goal true | if a = 0 then 0 else s(s(twice(p(a))))
+15 equal 4 - lr 4 2.1.1: assert dbl(s(s(?1))) = s(s(s(s(dbl(?1)))))";
 
 const OVER: &str = "\
 1 goal: goal le(a, ?1) and ?1 = s(b) | ?1
@@ -54,7 +55,8 @@ const JOIN: &str = "\
 11 equal 10 1 lr 1 2.1: goal ?1:L = app(nil, b) | if a = nil then ?1:L else cons(head(a), join(tail(a), b))
 12 def app 1: assert app(nil, ?1:L) = ?1:L
 13 equal 12 - lr 11 2: goal ?1:L = b | if a = nil then ?1:L else cons(head(a), join(tail(a), b))
-14 reflex 13 -: goal true | if a = nil then b else cons(head(a), join(tail(a), b))";
+14 reflex 13 -: goal true | if a = nil then b else cons(head(a), join(tail(a), b))
+15 equal 4 - lr 4 2.2: assert app(cons(?1, cons(?2, ?3:L)), ?4:L) = cons(?1, cons(?2, app(?3:L, ?4:L)))";
 
 #[test]
 fn gives_worked_rows(rt: HostRuntime) -> Result<(), Fail> {
@@ -70,7 +72,7 @@ fn gives_worked_rows(rt: HostRuntime) -> Result<(), Fail> {
 const NOTHING: &str = "\
 equal 2 2 rl 1 2.1
 equal 2 2 lr 1 2.1.1
-equal 2 1 lr 15 2
+equal 2 1 lr 16 2
 equal 0 - lr 1 2
 equal 4 - lr 1 2
 equal 1 2 lr 3 2
@@ -79,13 +81,13 @@ resolve 8 1,1 9 2
 resolve 8 1 16 2
 resolve 20 1 9 2
 reflex 5 1
-reflex 15 -
+reflex 16 -
 reflex 0 -
 split 3 1
 split 2 1
 split 6 3
 split 30 1
-dual 15
+dual 16
 dual 0
 def dbl 3
 def dbl 0

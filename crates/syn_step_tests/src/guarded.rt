@@ -35,7 +35,18 @@ const BOUND: &str = "\
 /// Without an input condition.
 const UNBOUND: &str = "\
 1 axiom x: goal ?1 = s(twice(twice(0))) | ?1
-2 reflex 1 -: goal below(twice(0), a) and below(0, a) | s(twice(twice(0)))";
+2 reflex 1 -: goal below(twice(0), a) and below(0, a) | s(twice(twice(0)))
+3 axiom x: goal le(?1, twice(0)) | ?1
+4 axiom x: goal not le(twice(p(a)), ?1) | ?1
+5 resolve 3 - 4 1: goal below(p(a), a) and below(0, a) | if le(twice(p(a)), twice(0)) then twice(p(a)) else twice(0)
+6 axiom x: goal not ?1 = 0 | ?1
+7 axiom x: goal le(twice(p(a)), ?1) | s(?1)
+8 equal 6 1 lr 7 1: goal le(0, ?1) and below(p(a), a) | if twice(p(a)) = 0 then s(?1) else twice(p(a))
+9 axiom x: assert not le(twice(p(a)), 0) | 0
+10 axiom x: assert le(?1, 0) or a = 0 | ?1
+11 resolve 9 1 10 1: assert a = 0 or not below(p(a), a) | if le(twice(p(a)), 0) then 0 else twice(p(a))
+12 axiom x: assert not ?1 = twice(p(a)) | ?1
+13 reflex 12 1: assert not below(p(a), a) | twice(p(a))";
 
 /// Without an order.
 const PLAIN: &str = "\
