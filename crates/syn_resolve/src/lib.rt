@@ -9,11 +9,13 @@ mod joint;
 mod parts;
 mod positions;
 mod reflexivity;
+mod replacing;
 mod resolving;
 mod sizes;
 mod splitting;
 
 pub use equality::equality_at;
 pub use reflexivity::reflex;
+pub use replacing::equal;
 pub use resolving::resolve;
 pub use splitting::{dual, split};
