@@ -1,0 +1,4 @@
+pub mod Growth
+pub mod NumberedRows
+pub mod OfStart
+pub mod StepLaws
