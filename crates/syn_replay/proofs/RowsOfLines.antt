@@ -1,5 +1,5 @@
 -- The rows of lines, once they are simplified, and once the bank has made more nodes.
-use Rattle.std.proofs.Common.{◌≡◌, ◌<◌, ℕ, List, Option, None, Some, IfSome, All, length, get_or, take, refl, sym, ◌∙◌, ap, subst}
+use Rattle.std.proofs.Common.{◌≡◌, ◌<◌, ◌-◌, ℕ, List, Option, None, Some, IfSome, All, length, get_or, take, refl, sym, ◌∙◌, ap, subst}
 use Rattle.std.specs.Option.{option_map}
 use Rattle.std.proofs.lemmas.List.Elements.{All-map, All-take, All-weaker}
 use Rattle.std.proofs.lemmas.Option.{get_or_from_slice_get, slice_get_within}
@@ -74,4 +74,4 @@ module _ (x : StartTree) where
 
   -- the last of the rows
   pub last_is_row : (b : Kept) (rows : List RowTree) (r : RowTree) → last_of rows ≡ Some r → All (IsRowOf x b) rows → IsRowOf x b r
-  last_is_row b rows r e h = subst (IsRowOf x b) (get_or_from_slice_get rows _ r r e) (h _ r (slice_get_within rows _ r e))
+  last_is_row b rows r e h = subst (IsRowOf x b) (get_or_from_slice_get rows (length rows - 1) r r e) (h (length rows - 1) r (slice_get_within rows (length rows - 1) r e))

@@ -1,6 +1,7 @@
 // What a step gives.
-ghost use Rattle.std.specs.Prelude.{All, IfOk, IfSome};
+ghost use Rattle.std.specs.Prelude.{◌≡◌, All, IfOk, IfSome, Some};
 ghost use Rattle.syn_term.specs.Bank.{Extends};
+ghost use Rattle.syn_form.specs.Plain.{given_sort};
 ghost use Rattle.syn_row.specs.Guards.{RuleBelongs};
 ghost use Rattle.syn_start.specs.Initial.{Exactly, IsReady};
 ghost use Rattle.syn_step.specs.Rows.{IsRowOf};
@@ -16,7 +17,8 @@ use syn_term::{Bank, NoMemory};
 
 /// The row that the step gives over the rows before it, which are counted from 1. It is the canonical row of the rule that the
 /// step names. None exactly where the rule gives no row, or the step names a row that isn't among these; `axiom`, `induct` and
-/// relation replacement give none yet. The bank may have made nodes then. The one error is `NoMemory`.
+/// relation replacement give none yet. The bank may have made nodes then. The row is again one over which steps may be made. The
+/// one error is `NoMemory`.
 #[tactic(auto, using(crate::proofs::Growth::growth))]
 pub fn result(
     alloc: Global,
@@ -29,6 +31,7 @@ pub fn result(
     requires rows { All (IsRowOf start.now bank.old) rows.now }
     ensures row { IfOk result (Exactly (StepGives start.now rows.now step.now)) }
     ensures ready { IfOk result (λ o. IfSome o (IsReady (start.now).spec.table bank.new)) }
+    ensures output { IfOk result (λ o. IfSome o (λ q. IfSome q.out (λ u. given_sort (start.now).spec.table u ≡ Some (start.now).spec.head.result))) }
     ensures extends { Extends bank.old bank.new }
 {
     match step {
