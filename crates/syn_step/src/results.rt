@@ -4,7 +4,7 @@ ghost use Rattle.syn_term.specs.Bank.{Extends};
 ghost use Rattle.syn_form.specs.Plain.{given_sort};
 ghost use Rattle.syn_row.specs.Guards.{RuleBelongs};
 ghost use Rattle.syn_start.specs.Initial.{Exactly, IsReady};
-ghost use Rattle.syn_step.specs.Rows.{IsRowOf};
+ghost use Rattle.syn_start.specs.Rows.{IsRowOf};
 ghost use Rattle.syn_step.specs.Steps.{StepGives};
 
 use crate::initial_rows::initial_row;

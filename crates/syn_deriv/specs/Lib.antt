@@ -1,0 +1,3 @@
+pub mod DerivationLines
+pub mod PrintedDerivation
+pub mod inner
