@@ -1,5 +1,6 @@
 pub mod Pieces
 pub mod TermTexts
+pub mod OpenTerms
 pub mod FormTexts
 pub mod QFormTexts
 pub mod QFormSizes

@@ -1,11 +1,11 @@
 // The printer of terms: where the text of a term is a number the number is printed, and elsewhere
 // the name of its symbol with the arguments' texts, or its variable.
-ghost use Rattle.std.specs.Prelude.{◌≡◌, ◌++◌, string_bytes, if◌then◌else◌, nat_lt, Option, ℕ, Some, None, IfOk, OnOk};
+ghost use Rattle.std.specs.Prelude.{◌≡◌, ◌++◌, string_bytes, if◌then◌else◌, nat_lt, Option, ℕ, Some, None, IfOk, OnOk, false, [], ◌∷◌};
 ghost use Rattle.syn_form.specs.Printing.{printed_term, printing_of, row_text, var_text};
 ghost use Rattle.syn_expr.specs.Readable.{IsReadableTerm};
 ghost use Rattle.syn_form.specs.Texts.{IsTermOf};
 ghost use Rattle.syn_term.specs.Terms.{bare};
-ghost use Rattle.syn_expr.specs.inner.Places.{arguments_text, next_number, spoken_at};
+ghost use Rattle.syn_expr.specs.inner.Places.{arguments_text, ends_in_zero, next_number, spoken_at};
 ghost use Rattle.syn_expr.specs.Told.{IsToldTerm};
 ghost use Rattle.syn_expr.specs.TextAnswers.{ReadsBack};
 ghost use Rattle.syn_expr.specs.Scopes.{spoken};
@@ -38,13 +38,28 @@ fn term_text(alloc: Global, scope: &Scope, t: &Term) -> Result<String, NoMemory>
 }
 
 /// Puts the text of the term after what stands already. The one error is want of memory.
+///
+/// How the term ends is found once for all of its successors, so that printing takes time in
+/// proportion to the text.
 #[cycle(terms)]
 pub(crate) fn put_term(out: &mut String, place: &Inside, t: &Term) -> Result<(), NoMemory>
     ensures { OnOk result (string_bytes out.new ≡ string_bytes out.old ++ printed_term (spoken_at place.now) t.now) }
 {
-    if let Some(number) = number_of(place, t) {
-        return put_number(out, number);
+    if !ends_in_zero(place, t) {
+        return put_open(out, place, t);
     }
+    match number_of(place, t) {
+        Some(number) => put_number(out, number),
+        None => put_numberless(out, place, t),
+    }
+}
+
+/// Puts a term that is no number, and whose arguments may be.
+#[cycle(terms)]
+fn put_numberless(out: &mut String, place: &Inside, t: &Term) -> Result<(), NoMemory>
+    requires none { (printing_of (spoken_at place.now) t.now).number ≡ None }
+    ensures { OnOk result (string_bytes out.new ≡ string_bytes out.old ++ printed_term (spoken_at place.now) t.now) }
+{
     match t.get() {
         Node::Var(_, v) => put_var(out, place, *v),
         Node::App(_, f, args) => {
@@ -52,6 +67,35 @@ pub(crate) fn put_term(out: &mut String, place: &Inside, t: &Term) -> Result<(),
             put_args(out, place, args.as_slice())
         }
     }
+}
+
+/// Puts a term that is not `0` under successors, so that no part under its successors is a number.
+#[cycle(terms)]
+fn put_open(out: &mut String, place: &Inside, t: &Term) -> Result<(), NoMemory>
+    requires open_end { ends_in_zero (spoken_at place.now) t.now ≡ false }
+    ensures { OnOk result (string_bytes out.new ≡ string_bytes out.old ++ printed_term (spoken_at place.now) t.now) }
+{
+    match t.get() {
+        Node::Var(_, v) => put_var(out, place, *v),
+        Node::App(_, f, args) => {
+            put(out, symbol_name(place.syms, *f))?;
+            match (symbol_kind(place.syms, *f), args.as_slice()) {
+                (Some(Kind::Succ), [arg]) => put_open_argument(out, place, arg),
+                (_, args) => put_args(out, place, args),
+            }
+        }
+    }
+}
+
+/// Puts the argument of a successor in brackets, where it is not `0` under successors.
+#[cycle(terms)]
+fn put_open_argument(out: &mut String, place: &Inside, arg: &Term) -> Result<(), NoMemory>
+    requires open_end { ends_in_zero (spoken_at place.now) arg.now ≡ false }
+    ensures { OnOk result (string_bytes out.new ≡ string_bytes out.old ++ arguments_text (spoken_at place.now) (arg.now ∷ [])) }
+{
+    put(out, "(")?;
+    put_open(out, place, arg)?;
+    put(out, ")")
 }
 
 /// Puts the arguments in brackets, and nothing where there are none.
@@ -93,6 +137,20 @@ fn put_row_var(out: &mut String, syms: &Symbols, v: Var) -> Result<(), NoMemory>
             put(out, ":")?;
             put(out, sort_name(syms, v.sort))
         }
+    }
+}
+
+/// Whether the term is `0` under successors, of any number.
+fn ends_in_zero(place: &Inside, t: &Term) -> bool
+    ensures { result ≡ ends_in_zero (spoken_at place.now) t.now }
+{
+    match t.get() {
+        Node::Var(_, _) => false,
+        Node::App(_, f, args) => match (symbol_kind(place.syms, *f), args.as_slice()) {
+            (Some(Kind::Zero), []) => true,
+            (Some(Kind::Succ), [arg]) => ends_in_zero(place, arg),
+            _ => false,
+        },
     }
 }
 
