@@ -3,7 +3,7 @@ ghost use Rattle.std.specs.Prelude.{◌↔◌, IfSome, IsTrue};
 ghost use Rattle.syn_model.specs.Programs.{IsPrimitiveProgram};
 ghost use Rattle.syn_extract.specs.Final.{Ends, IsFinal};
 
-use crate::primitive::is_primitive_out;
+use crate::primitive::is_primitive;
 use syn_form::{Form, Out, Side};
 use syn_model::Spec;
 use syn_row::Row;
@@ -24,7 +24,7 @@ fn may_be_body(spec: &Spec, out: &Option<Out>) -> bool
 {
     match out {
         None => true,
-        Some(out) => is_primitive_out(spec, out),
+        Some(out) => is_primitive(spec, out),
     }
 }
 

@@ -12,3 +12,4 @@ mod spec_head;
 
 pub use extracting::program_of;
 pub use finality::is_final;
+pub use primitive::is_primitive;

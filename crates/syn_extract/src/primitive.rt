@@ -178,17 +178,19 @@ fn are_primitive_forms(spec: &Spec, all: &[Form]) -> bool
     true
 }
 
-/// Whether a program may have each symbol of the output, which may then be its body.
-pub(crate) fn is_primitive_out(spec: &Spec, o: &Out) -> bool
-    ensures { IsTrue result ↔ IsPrimitiveProgram spec.now o.now }
+/// Whether the output may be the body of a program for the specification: each of its symbols is a constructor, an input,
+/// one of the `primitive` line, or the program itself where an order is named. Variables, equality and connectives may
+/// always occur; a symbol that the specification doesn't have may not.
+pub fn is_primitive(spec: &Spec, out: &Out) -> bool
+    ensures { IsTrue result ↔ IsPrimitiveProgram spec.now out.now }
 {
-    match o {
+    match out {
         Out::Give(t) => is_primitive_term(spec, t),
         Out::If(f, u, v) => {
             if !is_primitive_form(spec, f.get()) {
                 return false;
             }
-            is_primitive_out(spec, u.get()) && is_primitive_out(spec, v.get())
+            is_primitive(spec, u.get()) && is_primitive(spec, v.get())
         }
     }
 }
