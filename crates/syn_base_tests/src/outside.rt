@@ -3,6 +3,7 @@
 ghost use Rattle.std.specs.Prelude.{◌<◌};
 
 use std::alloc::{AllocError, Global};
+use std::process::Abort;
 use std::test::Fail;
 use syn_outside::{
     Cabinet, FolderCabinet, MemCabinet, MemSink, ReadError, StdSink, Trouble, WriteError, put_all,
@@ -19,48 +20,52 @@ fn one_file(alloc: Global, length: usize, step: usize, fail: u64) -> Result<MemC
     Ok(MemCabinet::new(files, step, Vec::from_slice(alloc, &[fail])?))
 }
 
-/// How many bytes a reader with room for 1,000 takes from such a cabinet.
-fn count_read(
+/// How many bytes a reader with room for 1,000 takes of the file.
+fn count_read(alloc: Global, cab: &mut MemCabinet, name: &str) -> Result<usize, ReadError> {
+    Ok(read_all(alloc, cab, name, 1000)?.len())
+}
+
+/// A reader with room for 1,000 takes so many bytes of such a cabinet, or is told the error.
+fn reads(
+    rt: &impl Abort,
     alloc: Global,
     name: &str,
     length: usize,
     step: usize,
     fail: u64,
-) -> Result<Result<usize, ReadError>, AllocError>
+    want: Result<usize, ReadError>,
+) -> Result<(), Fail>
     requires { 0 < step }
 {
     let mut cab = one_file(alloc, length, step, fail)?;
-    match read_all(alloc, &mut cab, name, 1000) {
-        Ok(bytes) => Ok(Ok(bytes.len())),
-        Err(error) => Ok(Err(error)),
-    }
-}
-
-#[test]
-fn reads_whole_files(rt: HostRuntime) -> Result<(), Fail> {
-    let alloc = rt.alloc();
-    let fault = Err(ReadError::Fault);
-    assert_eq!(rt; count_read(alloc, "a", 1000, 1, 0)?, Ok(1000));
-    assert_eq!(rt;
-        count_read(alloc, "a", 1001, 4096, 0)?,
-        Err(ReadError::TooLong)
-    );
-    assert_eq!(rt; count_read(alloc, "a", 0, 8, 0)?, Ok(0));
-    assert_eq!(rt; count_read(alloc, "a", 30, 8, 2)?, fault);
-    assert_eq!(rt; count_read(alloc, "a", 30, 8, 6)?, Ok(30));
-    assert_eq!(rt; count_read(alloc, "b", 30, 8, 0)?, fault);
+    assert!(rt; count_read(alloc, &mut cab, name) == want);
     Ok(())
 }
 
 #[test]
-fn puts_whole_texts(rt: HostRuntime) -> Result<(), Fail> {
+fn reads_whole_files(rt: HostRuntime) -> Result<(), Fail> {
+    reads(&rt, rt.alloc(), "a", 1000, 1, 0, Ok(1000))?;
+    reads(&rt, rt.alloc(), "a", 1001, 4096, 0, Err(ReadError::TooLong))?;
+    reads(&rt, rt.alloc(), "a", 0, 8, 0, Ok(0))?;
+    reads(&rt, rt.alloc(), "a", 30, 8, 2, Err(ReadError::Fault))?;
+    reads(&rt, rt.alloc(), "a", 30, 8, 6, Ok(30))?;
+    reads(&rt, rt.alloc(), "b", 30, 8, 0, Err(ReadError::Fault))
+}
+
+/// A fault in the middle of the text, and the rest put after it.
+fn put_in_two(rt: &impl Abort, sink: &mut MemSink) {
     let bytes = [7u8; 30];
+    assert!(rt; put_all(sink, &bytes) == Err(WriteError::Fault));
+    assert!(rt; sink.text() == &bytes[..8]);
+    assert!(rt; put_all(sink, &bytes[8..]) == Ok(()));
+    assert!(rt; sink.text() == &bytes[..]);
+}
+
+#[test]
+fn puts_whole_texts(rt: HostRuntime) -> Result<(), Fail> {
     let mut sink = MemSink::new(8, Vec::from_slice(rt.alloc(), &[2])?);
-    assert_eq!(rt; put_all(&mut sink, &bytes), Err(WriteError::Fault));
-    assert_eq!(rt; sink.text(), &bytes[..8]);
-    assert_eq!(rt; put_all(&mut sink, &bytes[8..]), Ok(()));
-    assert_eq!(rt; sink.text(), &bytes[..]);
-    assert_eq!(rt; put_all(&mut StdSink::new(&rt), b"put\n"), Ok(()));
+    put_in_two(&rt, &mut sink);
+    assert!(rt; put_all(&mut StdSink::new(&rt), b"put\n") == Ok(()));
     Ok(())
 }
 
@@ -72,21 +77,34 @@ fn holds<C: Cabinet>(alloc: Global, cab: &mut C, want: &[u8]) -> bool {
     }
 }
 
-#[test]
-fn works_on_the_folder(rt: HostRuntime) -> Result<(), Fail> {
-    let alloc = rt.alloc();
-    let mut cab = FolderCabinet::new(&rt);
+/// Writes the text at the place.
+fn writes<C: Cabinet>(rt: &impl Abort, cab: &mut C, place: u64, text: &[u8]) {
+    assert!(rt; cab.write("a.txt", place, text) == Ok(text.len()));
+}
+
+/// What can't be read or written.
+fn finds_no_file<C: Cabinet>(rt: &impl Abort, cab: &mut C) {
     let mut buffer = [1; 8];
-    assert_eq!(rt; cab.read("a.txt", 0, &mut buffer), Err(Trouble::Failed));
-    assert_eq!(rt; cab.write("a.txt", 0, b"longer than the last"), Ok(20));
-    assert_eq!(rt; cab.write("a.txt", 0, b"first"), Ok(5));
-    assert_eq!(rt; cab.write("a.txt", 5, b" second"), Ok(7));
-    assert!(rt; holds(alloc, &mut cab, b"first second"));
-    assert_eq!(rt; cab.write("a.txt", 6, b"2"), Ok(1));
-    assert!(rt; holds(alloc, &mut cab, b"first 2"));
-    assert_eq!(rt; cab.read("a.txt", 1, &mut buffer), Ok(6));
-    assert_eq!(rt; &buffer, b"irst 2\x01\x01");
-    let absent = cab.write("b.txt", 1, b"no such file");
-    assert_eq!(rt; absent, Err(Trouble::Failed));
-    Ok(())
+    assert!(rt; cab.read("a.txt", 0, &mut buffer) == Err(Trouble::Failed));
+    assert!(rt; cab.write("b.txt", 1, b"no such file") == Err(Trouble::Failed));
+}
+
+/// The rest of the buffer is left.
+fn reads_a_part<C: Cabinet>(rt: &impl Abort, cab: &mut C) {
+    let mut buffer = [1; 8];
+    assert!(rt; cab.read("a.txt", 1, &mut buffer) == Ok(6));
+    assert!(rt; &buffer == b"irst 2\x01\x01");
+}
+
+#[test]
+fn works_on_the_folder(rt: HostRuntime) {
+    let mut cab = FolderCabinet::new(&rt);
+    finds_no_file(&rt, &mut cab);
+    writes(&rt, &mut cab, 0, b"longer than the last");
+    writes(&rt, &mut cab, 0, b"first");
+    writes(&rt, &mut cab, 5, b" second");
+    assert!(rt; holds(rt.alloc(), &mut cab, b"first second"));
+    writes(&rt, &mut cab, 6, b"2");
+    assert!(rt; holds(rt.alloc(), &mut cab, b"first 2"));
+    reads_a_part(&rt, &mut cab);
 }

@@ -2,13 +2,11 @@
 ghost use Rattle.std.specs.Prelude.{All, IfOk};
 ghost use Rattle.syn_term.specs.Bank.{Belongs};
 
-use sqlite_items::Items;
 use std::alloc::Global;
+use std::process::Abort;
 use std::test::Fail;
-use syn_cases::cut;
-use syn_term::{
-    Bank, Head, Kind, NoMemory, Pos, Sort, Sym, SymId, Symbols, Term, Text, Var, decimal_number,
-};
+use syn_cases::{added, cut};
+use syn_term::{Bank, Head, Kind, NoMemory, Pos, Sort, SymId, Symbols, Term, Var, decimal_number};
 
 const ZERO: SymId = SymId(0);
 
@@ -50,16 +48,15 @@ fn position(alloc: Global, text: &str) -> Result<Pos, NoMemory> {
 /// A table with a function of two numbers.
 fn make_table(alloc: Global) -> Result<Symbols, Fail> {
     let mut syms = Symbols::new(alloc)?;
-    let f = Sym {
-        name: Text::from_str(alloc, "f")?,
-        kind: Kind::Fun,
-        args: Items::from_slice(alloc, &[Sort::Nat, Sort::Nat])?,
-        result: Some(Sort::Nat),
-    };
-    match syms.add(f)? {
-        None => Err(Fail::new("no function")),
-        Some(_) => Ok(syms),
-    }
+    added(
+        alloc,
+        &mut syms,
+        "f",
+        Kind::Fun,
+        &[Sort::Nat, Sort::Nat],
+        Some(Sort::Nat),
+    )?;
+    Ok(syms)
 }
 
 /// The symbol over the arguments.
@@ -118,7 +115,67 @@ fn count_variables(alloc: Global, t: &Term, v: Var) -> Result<usize, NoMemory> {
     Ok(count)
 }
 
-/// How many nodes were made to put a variable at the position. None: it may not be put there.
+/// Whether the variable stands at the position, and at no other.
+fn stands_there(alloc: Global, t: &Term, pos: &Pos, v: Var) -> Result<bool, NoMemory> {
+    Ok(head_at(t, pos) == Some(Head::Var(v)) && count_variables(alloc, t, v)? == 1)
+}
+
+/// The term with the variable at the position. None: it may not be put there.
+fn replaced(
+    alloc: Global,
+    bank: &mut Bank,
+    syms: &Symbols,
+    t: &Term,
+    pos: &Pos,
+    v: Var,
+) -> Result<Option<Term>, NoMemory>
+    requires { Belongs bank.old t.now }
+{
+    let new = bank.var(alloc, v)?;
+    bank.replace_at(alloc, syms, t, pos, &new)
+}
+
+/// Whether the variable may be put at the position of the term, and stands there alone then.
+fn may_be_put(
+    alloc: Global,
+    bank: &mut Bank,
+    syms: &Symbols,
+    t: &Term,
+    pos: &Pos,
+    v: Var,
+) -> Result<bool, Fail>
+    requires { Belongs bank.old t.now }
+{
+    match replaced(alloc, bank, syms, t, pos, v)? {
+        None => Ok(false),
+        Some(t) => {
+            if stands_there(alloc, &t, pos, v)? {
+                Ok(true)
+            } else {
+                Err(Fail::new("another place"))
+            }
+        }
+    }
+}
+
+/// How many nodes were made to put the variable there, beside its own. None: it may not be put there.
+fn made_in(
+    alloc: Global,
+    bank: &mut Bank,
+    syms: &Symbols,
+    pos: &Pos,
+    v: Var,
+) -> Result<Option<u64>, Fail> {
+    let t = twice(alloc, bank, syms)?;
+    let before = bank.made();
+    if may_be_put(alloc, bank, syms, &t, pos, v)? {
+        Ok(Some(bank.made().saturating_sub(before.saturating_add(1))))
+    } else {
+        Ok(None)
+    }
+}
+
+/// The same for a row of the table.
 fn made_for(alloc: Global, syms: &Symbols, row: &str) -> Result<Option<u64>, Fail> {
     let (path, sort) = cut(row, ": ");
     let v = Var {
@@ -126,72 +183,89 @@ fn made_for(alloc: Global, syms: &Symbols, row: &str) -> Result<Option<u64>, Fai
         sort: syn_cases::sort_of(sort),
     };
     let pos = position(alloc, path)?;
-    let mut bank = Bank::new(alloc);
-    let t = twice(alloc, &mut bank, syms)?;
-    let new = bank.var(alloc, v)?;
-    let before = bank.made();
-    let Some(replaced) = bank.replace_at(alloc, syms, &t, &pos, &new)? else {
-        return Ok(None);
-    };
-    if head_at(&replaced, &pos) != Some(Head::Var(v))
-        || count_variables(alloc, &replaced, v)? != 1
-    {
-        return Err(Fail::new("another place"));
-    }
-    Ok(Some(bank.made().saturating_sub(before)))
+    made_in(alloc, &mut Bank::new(alloc), syms, &pos, v)
 }
 
-#[test]
-fn replaces_one_place(rt: HostRuntime) -> Result<(), Fail> {
-    let alloc = rt.alloc();
-    let syms = make_table(alloc)?;
+fn replace_one_place(rt: &impl Abort, alloc: Global, syms: &Symbols) -> Result<(), Fail> {
     for line in REPLACED.lines() {
         let (row, made) = cut(line, " => ");
-        assert_eq!(rt;
-            made_for(alloc, &syms, row)?,
-            decimal_number(made).map(u64::from)
-        );
+        let got = made_for(alloc, syms, row)?;
+        assert!(rt; got == decimal_number(made).map(u64::from), "at {row}");
     }
     Ok(())
 }
 
-/// The heads at the end of a chain before and after a variable is put there, and the nodes made.
-fn deep(alloc: Global, depth: u32, v: Var) -> Result<(Option<Head>, Option<Head>, u64), Fail> {
-    let syms = Symbols::new(alloc)?;
+#[test]
+fn replaces_one_place(rt: HostRuntime) -> Result<(), Fail> {
+    let syms = make_table(rt.alloc())?;
+    replace_one_place(&rt, rt.alloc(), &syms)
+}
+
+/// The position at the end of a chain of this depth.
+fn end_of(alloc: Global, depth: u32) -> Result<Pos, NoMemory> {
     let mut pos = Pos::root(alloc);
     for _ in 0..depth {
         pos.push(1)?;
     }
-    let mut bank = Bank::new(alloc);
-    let t = number(alloc, &mut bank, &syms, depth)?;
-    let new = bank.var(alloc, v)?;
-    let before = bank.made();
-    match bank.replace_at(alloc, &syms, &t, &pos, &new)? {
-        None => Err(Fail::new("no place")),
-        Some(replaced) => Ok((
-            head_at(&t, &pos),
-            head_at(&replaced, &pos),
-            bank.made().saturating_sub(before),
-        )),
-    }
+    Ok(pos)
 }
 
-#[test]
-fn replaces_at_depth(rt: HostRuntime) -> Result<(), Fail> {
+/// How many nodes were made to put the variable for `0` at the end of the chain, beside its own.
+fn made_at_the_end(
+    alloc: Global,
+    bank: &mut Bank,
+    syms: &Symbols,
+    t: &Term,
+    pos: &Pos,
+) -> Result<u64, Fail>
+    requires { Belongs bank.old t.now }
+{
     let v = Var {
         number: 7,
         sort: Sort::Nat,
     };
-    assert_eq!(rt;
-        deep(rt.alloc(), 2399, v)?,
-        (Some(Head::Sym(ZERO)), Some(Head::Var(v)), 2399)
-    );
+    if head_at(t, pos) != Some(Head::Sym(ZERO)) {
+        return Err(Fail::new("no end"));
+    }
+    let before = bank.made();
+    match replaced(alloc, bank, syms, t, pos, v)? {
+        None => Err(Fail::new("no place")),
+        Some(t) => {
+            if head_at(&t, pos) != Some(Head::Var(v)) {
+                return Err(Fail::new("another place"));
+            }
+            Ok(bank.made().saturating_sub(before.saturating_add(1)))
+        }
+    }
+}
+
+/// The same for a chain of this depth.
+fn deep(alloc: Global, bank: &mut Bank, syms: &Symbols, depth: u32) -> Result<u64, Fail> {
+    let pos = end_of(alloc, depth)?;
+    deep_at(alloc, bank, syms, &pos, depth)
+}
+
+fn deep_at(
+    alloc: Global,
+    bank: &mut Bank,
+    syms: &Symbols,
+    pos: &Pos,
+    depth: u32,
+) -> Result<u64, Fail> {
+    let t = number(alloc, bank, syms, depth)?;
+    made_at_the_end(alloc, bank, syms, &t, pos)
+}
+
+#[test]
+fn replaces_at_depth(rt: HostRuntime) -> Result<(), Fail> {
+    let syms = Symbols::new(rt.alloc())?;
+    assert!(rt; deep(rt.alloc(), &mut Bank::new(rt.alloc()), &syms, 2399)? == 2399);
     Ok(())
 }
 
 #[test]
 fn goes_on_beyond_eight(rt: HostRuntime) -> Result<(), Fail> {
     let pos = position(rt.alloc(), "1 2 3 4 5 6 7 8 9")?;
-    assert_eq!(rt; pos.as_slice(), &[1, 2, 3, 4, 5, 6, 7, 8, 9][..]);
+    assert!(rt; pos.as_slice() == &[1, 2, 3, 4, 5, 6, 7, 8, 9][..]);
     Ok(())
 }

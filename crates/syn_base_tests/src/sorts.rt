@@ -1,5 +1,6 @@
 // Declared sorts: lists and tuples that a table takes, and what it shows of them.
 use std::alloc::Global;
+use std::process::Abort;
 use std::test::Fail;
 use syn_cases::{cut, sort_of, sorts_of};
 use syn_term::{Shape, Sort, Symbols, decimal_number};
@@ -41,41 +42,49 @@ fn tuple(alloc: Global, table: &mut Symbols, line: &str) -> Result<Option<Sort>,
     Ok(table.add_tuple(name, make, sorts_of(alloc, parts)?.as_slice())?)
 }
 
+fn declare_lists(rt: &impl Abort, table: &mut Symbols) -> Result<(), Fail> {
+    for row in LISTS.lines() {
+        let (line, number) = cut(row, " => ");
+        let got = list(table, line)?;
+        assert!(rt; got == decimal_number(number).map(Sort::Named), "at {line}");
+    }
+    Ok(())
+}
+
 #[test]
 fn declares_lists(rt: HostRuntime) -> Result<(), Fail> {
     let mut table = Symbols::new(rt.alloc())?;
-    for row in LISTS.lines() {
+    declare_lists(&rt, &mut table)?;
+    assert!(rt; table.find_sort("rows") == Some(Sort::Named(1)));
+    Ok(())
+}
+
+fn declare_tuples(rt: &impl Abort, alloc: Global, table: &mut Symbols) -> Result<(), Fail> {
+    for row in TUPLES.lines() {
         let (line, number) = cut(row, " => ");
-        assert_eq!(rt;
-            list(&mut table, line)?,
-            decimal_number(number).map(Sort::Named)
-        );
+        let got = tuple(alloc, table, line)?;
+        assert!(rt; got == decimal_number(number).map(Sort::Named), "at {line}");
     }
-    assert_eq!(rt; table.find_sort("rows"), Some(Sort::Named(1)));
     Ok(())
 }
 
 #[test]
 fn declares_tuples(rt: HostRuntime) -> Result<(), Fail> {
-    let alloc = rt.alloc();
-    let mut table = Symbols::new(alloc)?;
-    for row in TUPLES.lines() {
-        let (line, number) = cut(row, " => ");
-        assert_eq!(rt;
-            tuple(alloc, &mut table, line)?,
-            decimal_number(number).map(Sort::Named)
-        );
-    }
-    Ok(())
+    let mut table = Symbols::new(rt.alloc())?;
+    declare_tuples(&rt, rt.alloc(), &mut table)
+}
+
+fn show_sorts(rt: &impl Abort, table: &Symbols) {
+    assert!(rt; table.find_sort("nat") == Some(Sort::Nat));
+    assert!(rt; table.find_sort("nats") == None);
+    assert!(rt; table.sort_name(Sort::Nat) == Some("nat"));
+    assert!(rt; matches!(table.shape(Sort::Nat), Some(Shape::Nat)));
+    assert!(rt; table.shape(Sort::Named(0)).is_none());
 }
 
 #[test]
 fn shows_sorts(rt: HostRuntime) -> Result<(), Fail> {
     let table = Symbols::new(rt.alloc())?;
-    assert_eq!(rt; table.find_sort("nat"), Some(Sort::Nat));
-    assert_eq!(rt; table.find_sort("nats"), None);
-    assert_eq!(rt; table.sort_name(Sort::Nat), Some("nat"));
-    assert!(rt; matches!(table.shape(Sort::Nat), Some(Shape::Nat)));
-    assert!(rt; table.shape(Sort::Named(0)).is_none());
+    show_sorts(&rt, &table);
     Ok(())
 }

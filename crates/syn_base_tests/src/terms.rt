@@ -17,16 +17,16 @@ fn nat(number: u32) -> Var {
 }
 
 fn assert_variable<R: Abort>(rt: &R, syms: &Symbols, term: &Term) {
-    assert_eq!(rt; term.head(), Head::Var(nat(7)));
-    assert_eq!(rt; term.sort(syms), Sort::Nat);
+    assert!(rt; term.head() == Head::Var(nat(7)));
+    assert!(rt; term.sort(syms) == Sort::Nat);
     assert_eq!(rt; (term.size(10), term.size(0)), (1, 1));
     assert_eq!(rt; (term.depth(10), term.depth(0)), (1, 1));
     assert!(rt; term.arg(1).is_none());
 }
 
 fn assert_one<R: Abort>(rt: &R, syms: &Symbols, one: &Term) {
-    assert_eq!(rt; one.head(), Head::Sym(SUCC));
-    assert_eq!(rt; one.sort_in(syms), Some(Sort::Nat));
+    assert!(rt; one.head() == Head::Sym(SUCC));
+    assert!(rt; one.sort_in(syms) == Some(Sort::Nat));
     assert_eq!(rt; (one.size(10), one.size(1), one.size(0)), (2, 2, 1));
     assert_eq!(rt; (one.depth(10), one.depth(1), one.depth(0)), (2, 2, 1));
     assert!(rt; one.arg(0).is_none());
@@ -45,22 +45,36 @@ fn one(alloc: Global, syms: &Symbols, bank: &mut Bank) -> Result<Term, Fail> {
     }
 }
 
-fn makes_terms_of<R: Abort>(rt: &R, alloc: Global, syms: &Symbols) -> Result<(), Fail> {
-    let mut bank = Bank::new(alloc);
-    assert_variable(rt, syms, &bank.var(alloc, nat(7))?);
-    assert_eq!(rt; bank.made(), 1);
-    assert_one(rt, syms, &one(alloc, syms, &mut bank)?);
-    assert_eq!(rt; bank.made(), 3);
+fn makes_no_terms(
+    rt: &impl Abort,
+    alloc: Global,
+    bank: &mut Bank,
+    syms: &Symbols,
+) -> Result<(), Fail> {
     assert!(rt; bank.app(alloc, syms, SUCC, &[])?.is_none());
     assert!(rt; bank.app(alloc, syms, SymId(2), &[])?.is_none());
-    assert_eq!(rt; bank.made(), 3);
+    Ok(())
+}
+
+fn makes_terms_of(
+    rt: &impl Abort,
+    alloc: Global,
+    bank: &mut Bank,
+    syms: &Symbols,
+) -> Result<(), Fail> {
+    assert_variable(rt, syms, &bank.var(alloc, nat(7))?);
+    assert!(rt; bank.made() == 1);
+    assert_one(rt, syms, &one(alloc, syms, bank)?);
+    assert!(rt; bank.made() == 3);
+    makes_no_terms(rt, alloc, bank, syms)?;
+    assert!(rt; bank.made() == 3);
     Ok(())
 }
 
 #[test]
 fn makes_terms(rt: HostRuntime) -> Result<(), Fail> {
     let syms = Symbols::new(rt.alloc())?;
-    makes_terms_of(&rt, rt.alloc(), &syms)
+    makes_terms_of(&rt, rt.alloc(), &mut Bank::new(rt.alloc()), &syms)
 }
 
 /// Whether two new variables with these numbers are the same.
@@ -78,12 +92,17 @@ fn compares_terms(rt: HostRuntime) -> Result<(), Fail> {
     Ok(())
 }
 
+/// Whether the texts are one, as `Text` sees it.
+fn is_text(alloc: Global, first: &str, second: &str) -> Result<bool, Fail> {
+    let first = Text::from_str(alloc, first)?;
+    let second = Text::from_str(alloc, second)?;
+    Ok(first.same(&second))
+}
+
 #[test]
 fn keeps_texts(rt: HostRuntime) -> Result<(), Fail> {
-    let alloc = rt.alloc();
-    let text = Text::from_str(alloc, "λ")?;
-    assert_eq!(rt; text.as_str(), "λ");
-    assert!(rt; text.same(&Text::from_str(alloc, "λ")?));
-    assert!(rt; !text.same(&Text::from_str(alloc, "μ")?));
+    assert!(rt; Text::from_str(rt.alloc(), "λ")?.as_str() == "λ");
+    assert!(rt; is_text(rt.alloc(), "λ", "λ")?);
+    assert!(rt; !is_text(rt.alloc(), "λ", "μ")?);
     Ok(())
 }

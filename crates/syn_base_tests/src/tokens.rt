@@ -95,16 +95,21 @@ fn refuses_lines(rt: HostRuntime) -> Result<(), Fail> {
     tells(&rt, rt.alloc(), REFUSED)
 }
 
+/// The line begins nothing at the place that is told.
+fn refuses(rt: &impl Abort, alloc: Global, line: &[u8], want: &str) -> Result<(), Fail> {
+    let got = shown(alloc, line)?;
+    assert_eq!(rt; got.as_str(), want);
+    Ok(())
+}
+
 /// A line feed begins nothing, nor does a byte that is no part of UTF-8, in a comment either.
 #[test]
 fn refuses_bytes(rt: HostRuntime) -> Result<(), Fail> {
-    let alloc = rt.alloc();
-    assert_eq!(rt; shown(alloc, b"\n")?.as_str(), "at 0");
-    assert_eq!(rt; shown(alloc, b"a\nb")?.as_str(), "at 1");
-    assert_eq!(rt; shown(alloc, b"f(0) # x\n= b")?.as_str(), "at 8");
-    assert_eq!(rt; shown(alloc, b"# \n\xff")?.as_str(), "at 2");
-    assert_eq!(rt; shown(alloc, b"# \xff\n")?.as_str(), "at 2");
-    assert_eq!(rt; shown(alloc, b"a # b\xff c")?.as_str(), "at 5");
-    assert_eq!(rt; shown(alloc, b"a \xce")?.as_str(), "at 2");
-    Ok(())
+    refuses(&rt, rt.alloc(), b"\n", "at 0")?;
+    refuses(&rt, rt.alloc(), b"a\nb", "at 1")?;
+    refuses(&rt, rt.alloc(), b"f(0) # x\n= b", "at 8")?;
+    refuses(&rt, rt.alloc(), b"# \n\xff", "at 2")?;
+    refuses(&rt, rt.alloc(), b"# \xff\n", "at 2")?;
+    refuses(&rt, rt.alloc(), b"a # b\xff c", "at 5")?;
+    refuses(&rt, rt.alloc(), b"a \xce", "at 2")
 }

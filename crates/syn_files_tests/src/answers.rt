@@ -26,12 +26,28 @@ mono trans: le up le 2
 ";
 
 /// The lines of a case, which has ` // ` between them, each ended by a line feed.
-pub(crate) fn put_lines(out: &mut String, case: &str) -> Result<(), Fail> {
+fn put_lines(out: &mut String, case: &str) -> Result<(), Fail> {
     for line in case.split(" // ") {
         out.push_str(line)?;
         out.push('\n')?;
     }
     Ok(())
+}
+
+/// The text before a case, and the lines of the case.
+pub(crate) fn case_text(alloc: Global, before: &str, case: &str) -> Result<String, Fail> {
+    let mut text = String::from_str(alloc, before)?;
+    put_lines(&mut text, case)?;
+    Ok(text)
+}
+
+/// The line of the whole text that a case wants, whose text stands behind so many lines.
+pub(crate) fn wanted_behind(word: &str, before: &str) -> u64 {
+    let line = wanted(word);
+    if line == 0 {
+        return 0;
+    }
+    line.saturating_add(before.lines().count() as u64)
 }
 
 /// The number of the bad line that a case wants, 0 where the text is to be read.

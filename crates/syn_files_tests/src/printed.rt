@@ -159,23 +159,32 @@ axiom x1_2: some a: nat. (true -> a = 1)
 mono m: q down s 1 q
 ";
 
+/// The text that the theory of a text prints as.
+fn printed_theory(alloc: Global, text: &str) -> Result<String, Fail> {
+    let theory = theory_of(alloc, text)?;
+    Ok(print_theory(alloc, &theory)?)
+}
+
+fn prints(rt: &impl Abort, alloc: Global, text: &str, want: &str) -> Result<(), Fail> {
+    let printed = printed_theory(alloc, text)?;
+    assert_eq!(rt; printed.as_str(), want);
+    Ok(())
+}
+
+/// What is printed prints as itself.
+fn prints_twice(rt: &impl Abort, alloc: Global, text: &str, want: &str) -> Result<(), Fail> {
+    prints(rt, alloc, text, want)?;
+    prints(rt, alloc, want, want)
+}
+
 #[test]
 fn prints_theories(rt: HostRuntime) -> Result<(), Fail> {
-    let alloc = rt.alloc();
-    for (text, want) in [
-        (BASICS, BASICS_PRINTED),
-        (LISTS, LISTS_PRINTED),
-        (LOOP, LOOP_PRINTED),
-        (WIDE, WIDE_PRINTED),
-        ("theory empty\n", "theory empty\n"),
-        (MARKED, MARKED_PRINTED),
-    ] {
-        let printed = print_theory(alloc, &theory_of(alloc, text)?)?;
-        assert_eq!(rt; printed.as_str(), want);
-        let again = print_theory(alloc, &theory_of(alloc, want)?)?;
-        assert_eq!(rt; again.as_str(), want);
-    }
-    Ok(())
+    prints_twice(&rt, rt.alloc(), BASICS, BASICS_PRINTED)?;
+    prints_twice(&rt, rt.alloc(), LISTS, LISTS_PRINTED)?;
+    prints_twice(&rt, rt.alloc(), LOOP, LOOP_PRINTED)?;
+    prints_twice(&rt, rt.alloc(), WIDE, WIDE_PRINTED)?;
+    prints_twice(&rt, rt.alloc(), "theory empty\n", "theory empty\n")?;
+    prints_twice(&rt, rt.alloc(), MARKED, MARKED_PRINTED)
 }
 
 /// Specifications over the numbers above, printed as they are written.
@@ -233,15 +242,29 @@ fn printed_spec(alloc: Global, theory: &Theory, text: &str) -> Result<String, Fa
     }
 }
 
-#[test]
-fn prints_specifications(rt: HostRuntime) -> Result<(), Fail> {
-    let alloc = rt.alloc();
-    let theory = theory_of(alloc, BASICS)?;
+fn prints_spec(
+    rt: &impl Abort,
+    alloc: Global,
+    theory: &Theory,
+    text: &str,
+    want: &str,
+) -> Result<(), Fail> {
+    let printed = printed_spec(alloc, theory, text)?;
+    assert_eq!(rt; printed.as_str(), want);
+    Ok(())
+}
+
+fn print_specs(rt: &impl Abort, alloc: Global, theory: &Theory) -> Result<(), Fail> {
     for text in SPECS.split("--\n") {
-        let printed = printed_spec(alloc, &theory, text)?;
-        assert_eq!(rt; printed.as_str(), text);
+        prints_spec(rt, alloc, theory, text, text)?;
     }
     Ok(())
+}
+
+#[test]
+fn prints_specifications(rt: HostRuntime) -> Result<(), Fail> {
+    let theory = theory_of(rt.alloc(), BASICS)?;
+    print_specs(&rt, rt.alloc(), &theory)
 }
 
 /// The text with tabs for blanks, a comment and a carriage return behind each line, and a blank line between
@@ -258,105 +281,156 @@ fn dressed(alloc: Global, text: &str) -> Result<String, Fail> {
     Ok(out)
 }
 
+fn prints_dressed(rt: &impl Abort, alloc: Global, text: &str, want: &str) -> Result<(), Fail> {
+    let dressed = dressed(alloc, text)?;
+    prints(rt, alloc, dressed.as_str(), want)
+}
+
 #[test]
 fn reads_dressed_theories(rt: HostRuntime) -> Result<(), Fail> {
-    let alloc = rt.alloc();
-    for (text, want) in [
-        (BASICS, BASICS_PRINTED),
-        (LISTS, LISTS_PRINTED),
-        (LOOP, LOOP_PRINTED),
-        (WIDE, WIDE_PRINTED),
-    ] {
-        let dressed = dressed(alloc, text)?;
-        let printed = print_theory(alloc, &theory_of(alloc, dressed.as_str())?)?;
-        assert_eq!(rt; printed.as_str(), want);
+    prints_dressed(&rt, rt.alloc(), BASICS, BASICS_PRINTED)?;
+    prints_dressed(&rt, rt.alloc(), LISTS, LISTS_PRINTED)?;
+    prints_dressed(&rt, rt.alloc(), LOOP, LOOP_PRINTED)?;
+    prints_dressed(&rt, rt.alloc(), WIDE, WIDE_PRINTED)
+}
+
+fn prints_dressed_spec(
+    rt: &impl Abort,
+    alloc: Global,
+    theory: &Theory,
+    text: &str,
+) -> Result<(), Fail> {
+    let dressed = dressed(alloc, text)?;
+    prints_spec(rt, alloc, theory, dressed.as_str(), text)
+}
+
+fn print_dressed_specs(rt: &impl Abort, alloc: Global, theory: &Theory) -> Result<(), Fail> {
+    for text in SPECS.split("--\n") {
+        prints_dressed_spec(rt, alloc, theory, text)?;
     }
     Ok(())
 }
 
 #[test]
 fn reads_dressed_specifications(rt: HostRuntime) -> Result<(), Fail> {
-    let alloc = rt.alloc();
-    let theory = theory_of(alloc, BASICS)?;
-    for text in SPECS.split("--\n") {
-        let dressed = dressed(alloc, text)?;
-        let printed = printed_spec(alloc, &theory, dressed.as_str())?;
-        assert_eq!(rt; printed.as_str(), text);
+    let theory = theory_of(rt.alloc(), BASICS)?;
+    print_dressed_specs(&rt, rt.alloc(), &theory)
+}
+
+/// Puts so many brackets.
+fn close(out: &mut String, brackets: u32) -> Result<(), Fail> {
+    for _ in 0..brackets {
+        out.push(')')?;
     }
     Ok(())
 }
 
-/// The specification that two lists of 40 unknown numbers are to be one, with these words before the equality and so many
-/// brackets closed behind it.
-fn fan(alloc: Global, binders: &str, closed: u32) -> Result<String, Fail> {
-    let mut out = String::from_str(alloc, "spec fan\nprogram g(a: nat): z: nat\nensures ")?;
-    out.push_str(binders)?;
-    for i in 1..41u32 {
-        out.push_str(format!(in alloc; "cons(x{i}, ")?.as_str())?;
-    }
-    out.push_str("nil")?;
-    for _ in 1..41u32 {
-        out.push(')')?;
-    }
-    out.push_str(" = ")?;
-    for i in 2..42u32 {
-        out.push_str(format!(in alloc; "cons(t(x{i}, x{i}), ")?.as_str())?;
-    }
-    out.push_str("nil")?;
-    for _ in 2..42u32 {
-        out.push(')')?;
-    }
-    for _ in 0..closed {
-        out.push(')')?;
-    }
-    out.push('\n')?;
-    Ok(out)
+/// Puts `x` with the number.
+fn put_x(alloc: Global, out: &mut String, number: u32) -> Result<(), Fail> {
+    out.push_str(format!(in alloc; "x{number}")?.as_str())?;
+    Ok(())
 }
 
-/// A list of binders is printed as binders one by one, each formula under another in brackets.
+/// Puts the list of `x1` to `x40`.
+fn put_names(alloc: Global, out: &mut String) -> Result<(), Fail> {
+    for i in 1..41u32 {
+        out.push_str("cons(")?;
+        put_x(alloc, out, i)?;
+        out.push_str(", ")?;
+    }
+    out.push_str("nil")?;
+    close(out, 40)
+}
+
+/// Puts the list of `t(x2, x2)` to `t(x41, x41)`.
+fn put_pairs(alloc: Global, out: &mut String) -> Result<(), Fail> {
+    for i in 2..42u32 {
+        out.push_str("cons(t(")?;
+        put_x(alloc, out, i)?;
+        out.push_str(", ")?;
+        put_x(alloc, out, i)?;
+        out.push_str("), ")?;
+    }
+    out.push_str("nil")?;
+    close(out, 40)
+}
+
+/// Puts the binders of `x1` to `x41`, with the words between two of them.
+fn put_binders(alloc: Global, out: &mut String, between: &str) -> Result<(), Fail> {
+    out.push_str("some x1: nat")?;
+    for i in 2..42u32 {
+        out.push_str(between)?;
+        put_x(alloc, out, i)?;
+        out.push_str(": nat")?;
+    }
+    out.push_str(". ")?;
+    Ok(())
+}
+
+/// Puts the specification that two lists of 40 unknown numbers are to be one, with these words between two binders and so
+/// many brackets closed at the end.
+fn put_fan(alloc: Global, out: &mut String, between: &str, closed: u32) -> Result<(), Fail> {
+    out.push_str("spec fan\nprogram g(a: nat): z: nat\nensures ")?;
+    put_binders(alloc, out, between)?;
+    put_names(alloc, out)?;
+    out.push_str(" = ")?;
+    put_pairs(alloc, out)?;
+    close(out, closed)?;
+    out.push('\n')?;
+    Ok(())
+}
+
+/// The words between binders one by one, each formula under another in brackets, as they are printed.
+const NESTED: &str = ". (some ";
+
+fn prints_fan(
+    rt: &impl Abort,
+    alloc: Global,
+    theory: &Theory,
+    between: &str,
+    closed: u32,
+) -> Result<(), Fail> {
+    let mut text = String::new(alloc);
+    put_fan(alloc, &mut text, between, closed)?;
+    let mut want = String::new(alloc);
+    put_fan(alloc, &mut want, NESTED, 40)?;
+    prints_spec(rt, alloc, theory, text.as_str(), want.as_str())
+}
+
+/// A list of binders is printed as binders one by one.
 #[test]
 fn prints_a_specification_of_many_binders(rt: HostRuntime) -> Result<(), Fail> {
-    let alloc = rt.alloc();
-    let theory = theory_of(alloc, WIDE)?;
-    let mut listed = String::from_str(alloc, "some x1: nat")?;
-    let mut single = String::from_str(alloc, "some x1: nat. ")?;
-    let mut nested = String::from_str(alloc, "some x1: nat. ")?;
-    for i in 2..42u32 {
-        listed.push_str(format!(in alloc; ", x{i}: nat")?.as_str())?;
-        single.push_str(format!(in alloc; "some x{i}: nat. ")?.as_str())?;
-        nested.push_str(format!(in alloc; "(some x{i}: nat. ")?.as_str())?;
-    }
-    listed.push_str(". ")?;
-    let want = fan(alloc, nested.as_str(), 40)?;
-    for (binders, closed) in [
-        (listed.as_str(), 0),
-        (single.as_str(), 0),
-        (nested.as_str(), 40),
-    ] {
-        let text = fan(alloc, binders, closed)?;
-        assert_eq!(rt;
-            printed_spec(alloc, &theory, text.as_str())?.as_str(),
-            want.as_str()
-        );
-    }
-    Ok(())
+    let theory = theory_of(rt.alloc(), WIDE)?;
+    prints_fan(&rt, rt.alloc(), &theory, ", ", 0)?;
+    prints_fan(&rt, rt.alloc(), &theory, ". some ", 0)?;
+    prints_fan(&rt, rt.alloc(), &theory, NESTED, 40)
 }
+
+/// Over a relation.
+const LOOSE: &str = "\
+spec f
+program f(a: nat): z: nat
+ensures r(z)
+order below
+primitive r
+";
 
 #[test]
 fn prints_a_specification_over_a_relation(rt: HostRuntime) -> Result<(), Fail> {
-    let alloc = rt.alloc();
-    let theory = theory_of(alloc, LOOP)?;
-    let text = "spec f\nprogram f(a: nat): z: nat\nensures r(z)\norder below\nprimitive r\n";
-    assert_eq!(rt; printed_spec(alloc, &theory, text)?.as_str(), text);
-    Ok(())
+    let theory = theory_of(rt.alloc(), LOOP)?;
+    prints_spec(&rt, rt.alloc(), &theory, LOOSE, LOOSE)
 }
+
+const JOIN: &str = "\
+spec join
+program join(a: L, b: L): z: L
+ensures z = app(a, b)
+order shorter
+primitive head, tail
+";
 
 #[test]
 fn prints_a_specification_of_lists(rt: HostRuntime) -> Result<(), Fail> {
-    let alloc = rt.alloc();
-    let theory = theory_of(alloc, LISTS)?;
-    let text =
-        "spec join\nprogram join(a: L, b: L): z: L\nensures z = app(a, b)\norder shorter\nprimitive head, tail\n";
-    assert_eq!(rt; printed_spec(alloc, &theory, text)?.as_str(), text);
-    Ok(())
+    let theory = theory_of(rt.alloc(), LISTS)?;
+    prints_spec(&rt, rt.alloc(), &theory, JOIN, JOIN)
 }

@@ -1,5 +1,5 @@
 // Texts of specifications, and the line that is refused.
-use crate::answers::{BASE, bad_spec_line, put_lines, theory_of, wanted};
+use crate::answers::{BASE, bad_spec_line, case_text, theory_of, wanted_behind};
 use std::alloc::Global;
 use std::process::Abort;
 use std::test::Fail;
@@ -90,27 +90,24 @@ ensures z = a // primitive p // order below => 3
 ensures z = a // order below // primitive p // use refl => yes
 ensures z = a // nothing p => 2";
 
-/// Each case of the table, behind the text before it, which has so many lines.
-fn walk<R: Abort>(
-    rt: &R,
+/// The line of the case behind this text that is refused, 0 where none is.
+fn bad_line(alloc: Global, theory: &Theory, before: &str, case: &str) -> Result<u64, Fail> {
+    let text = case_text(alloc, before, case)?;
+    bad_spec_line(alloc, theory, text.as_bytes())
+}
+
+/// Each case of the table, behind this text.
+fn walk(
+    rt: &impl Abort,
     alloc: Global,
     theory: &Theory,
     before: &str,
     table: &str,
 ) -> Result<(), Fail> {
-    let lines = before.lines().count() as u64;
     for line in table.split('\n') {
         let (case, want) = cut(line, " => ");
-        let mut text = String::from_str(alloc, before)?;
-        put_lines(&mut text, case)?;
-        let line = wanted(want);
-        let expected = if line == 0 {
-            0
-        } else {
-            line.saturating_add(lines)
-        };
-        let got = bad_spec_line(alloc, theory, text.as_bytes())?;
-        assert!(rt; got == expected, "at {case}");
+        let got = bad_line(alloc, theory, before, case)?;
+        assert!(rt; got == wanted_behind(want, before), "at {case}");
     }
     Ok(())
 }
@@ -133,13 +130,13 @@ fn reads_parts(rt: HostRuntime) -> Result<(), Fail> {
     )
 }
 
-/// Two inputs have no order on one number.
+/// Two inputs have no order on one number, nor has one list.
+const ORDERED: &str = "\
+program f(a: nat, b: nat): z: nat // ensures z = a // order below => 3
+program f(a: L): z: nat // ensures z = 0 // order below => 3";
+
 #[test]
 fn refuses_orders_of_other_sorts(rt: HostRuntime) -> Result<(), Fail> {
     let theory = theory_of(rt.alloc(), BASE)?;
-    let text = "spec x\nprogram f(a: nat, b: nat): z: nat\nensures z = a\norder below\n";
-    assert_eq!(rt; bad_spec_line(rt.alloc(), &theory, text.as_bytes())?, 4);
-    let text = "spec x\nprogram f(a: L): z: nat\nensures z = 0\norder below\n";
-    assert_eq!(rt; bad_spec_line(rt.alloc(), &theory, text.as_bytes())?, 4);
-    Ok(())
+    walk(&rt, rt.alloc(), &theory, "spec x\n", ORDERED)
 }

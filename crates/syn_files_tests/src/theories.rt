@@ -1,5 +1,5 @@
 // Lines behind those of a theory, and the line that is refused, counted from the first of them.
-use crate::answers::{BASE, bad_theory_line, put_lines, wanted};
+use crate::answers::{BASE, bad_theory_line, case_text, wanted, wanted_behind};
 use std::alloc::Global;
 use std::process::Abort;
 use std::test::Fail;
@@ -201,25 +201,18 @@ mono m: le across le 1 => 1
 mono trans: le up le 1 => 1
 mono p: le up le 1 => 1";
 
-/// The lines of the text.
-fn count(text: &str) -> u64 {
-    text.lines().count() as u64
+/// The line of the case behind the theory that is refused, 0 where none is.
+fn bad_line(alloc: Global, case: &str) -> Result<u64, Fail> {
+    let text = case_text(alloc, BASE, case)?;
+    bad_theory_line(alloc, text.as_bytes())
 }
 
 /// Each case of the table, behind the lines of the theory.
-fn walk<R: Abort>(rt: &R, alloc: Global, table: &str) -> Result<(), Fail> {
+fn walk(rt: &impl Abort, alloc: Global, table: &str) -> Result<(), Fail> {
     for line in table.split('\n') {
         let (case, want) = cut(line, " => ");
-        let mut text = String::from_str(alloc, BASE)?;
-        put_lines(&mut text, case)?;
-        let line = wanted(want);
-        let expected = if line == 0 {
-            0
-        } else {
-            line.saturating_add(count(BASE))
-        };
-        let got = bad_theory_line(alloc, text.as_bytes())?;
-        assert!(rt; got == expected, "at {case}");
+        let got = bad_line(alloc, case)?;
+        assert!(rt; got == wanted_behind(want, BASE), "at {case}");
     }
     Ok(())
 }
@@ -249,35 +242,49 @@ fn reads_orders_axioms_monotonicities(rt: HostRuntime) -> Result<(), Fail> {
     walk(&rt, rt.alloc(), OTHERS)
 }
 
-/// Whole texts by their bytes, and the line that is refused.
+/// Whole texts, and the line that is refused. `/` is a line feed, and `~` a byte that no text has.
+const WHOLE: &str = "\
+theory a/ => 0
+/# first/  theory a # x// => 0
+ => 1
+/ => 2
+theory a => 1
+theory a/# x => 2
+theory a/  => 2
+theory/ => 1
+theory a b/ => 1
+theory nat/ => 1
+theory a/theory a/ => 2
+sort L = n | c(nat, L)/ => 1
+theory a/~/ => 2
+theory a/# ~/ => 2
+theory bad/fun g(nat): nat/clause g(0) = 0/clause g(s(x)) = g(s(x))/ => 4
+theory bad/fun g(nat): nat/clause g(0) = 0/ => 4";
+
+/// The bytes of a text of the table.
+fn bytes_of(alloc: Global, text: &str) -> Result<Vec<u8>, Fail> {
+    let mut bytes = Vec::new(alloc);
+    for c in text.bytes() {
+        match c {
+            b'/' => bytes.push(b'\n')?,
+            b'~' => bytes.push(255)?,
+            other => bytes.push(other)?,
+        }
+    }
+    Ok(bytes)
+}
+
+fn bad_line_of(alloc: Global, text: &str) -> Result<u64, Fail> {
+    let bytes = bytes_of(alloc, text)?;
+    bad_theory_line(alloc, bytes.as_slice())
+}
+
 #[test]
 fn reads_bytes(rt: HostRuntime) -> Result<(), Fail> {
-    let alloc = rt.alloc();
-    for (bytes, line) in [
-        (b"theory a\n".as_slice(), 0),
-        (b"\n# first\n  theory a # x\n\n".as_slice(), 0),
-        (b"".as_slice(), 1),
-        (b"\n".as_slice(), 2),
-        (b"theory a".as_slice(), 1),
-        (b"theory a\n# x".as_slice(), 2),
-        (b"theory a\n ".as_slice(), 2),
-        (b"theory\n".as_slice(), 1),
-        (b"theory a b\n".as_slice(), 1),
-        (b"theory nat\n".as_slice(), 1),
-        (b"theory a\ntheory a\n".as_slice(), 2),
-        (b"sort L = n | c(nat, L)\n".as_slice(), 1),
-        (b"theory a\n\xff\n".as_slice(), 2),
-        (b"theory a\n# \xff\n".as_slice(), 2),
-        (
-            b"theory bad\nfun g(nat): nat\nclause g(0) = 0\nclause g(s(x)) = g(s(x))\n".as_slice(),
-            4,
-        ),
-        (
-            b"theory bad\nfun g(nat): nat\nclause g(0) = 0\n".as_slice(),
-            4,
-        ),
-    ] {
-        assert_eq!(rt; bad_theory_line(alloc, bytes)?, line);
+    for line in WHOLE.split('\n') {
+        let (text, want) = cut(line, " => ");
+        let got = bad_line_of(rt.alloc(), text)?;
+        assert!(rt; got == wanted(want), "at {text}");
     }
     Ok(())
 }
@@ -297,21 +304,31 @@ fn wide(alloc: Global, args: u32) -> Result<String, Fail> {
     Ok(text)
 }
 
+/// The line of that text that is refused, 0 where none is.
+fn bad_wide_line(alloc: Global, args: u32) -> Result<u64, Fail> {
+    let text = wide(alloc, args)?;
+    bad_theory_line(alloc, text.as_bytes())
+}
+
 #[test]
 fn reads_up_to_64_arguments(rt: HostRuntime) -> Result<(), Fail> {
-    let alloc = rt.alloc();
-    assert_eq!(rt; bad_theory_line(alloc, wide(alloc, 64)?.as_bytes())?, 0);
-    assert_eq!(rt; bad_theory_line(alloc, wide(alloc, 65)?.as_bytes())?, 2);
+    assert_eq!(rt; bad_wide_line(rt.alloc(), 64)?, 0);
+    assert_eq!(rt; bad_wide_line(rt.alloc(), 65)?, 2);
     Ok(())
+}
+
+/// So many line feeds.
+fn feeds(alloc: Global, count: u32) -> Result<Vec<u8>, Fail> {
+    let mut bytes = Vec::new(alloc);
+    for _ in 0..count {
+        bytes.push(b'\n')?;
+    }
+    Ok(bytes)
 }
 
 #[test]
 fn counts_many_lines(rt: HostRuntime) -> Result<(), Fail> {
-    let alloc = rt.alloc();
-    let mut bytes = Vec::new(alloc);
-    for _ in 0..4_194_304u32 {
-        bytes.push(b'\n')?;
-    }
-    assert_eq!(rt; bad_theory_line(alloc, bytes.as_slice())?, 4_194_305);
+    let bytes = feeds(rt.alloc(), 4_194_304)?;
+    assert_eq!(rt; bad_theory_line(rt.alloc(), bytes.as_slice())?, 4_194_305);
     Ok(())
 }

@@ -1,10 +1,10 @@
 // Rows that end a derivation, and rows that don't; and the programs of rows.
-ghost use Rattle.std.specs.Prelude.{◌≡◌, ◌↔◌, IsTrue, Some};
+ghost use Rattle.std.specs.Prelude.{◌≡◌, ◌↔◌, IsTrue, IfSome, Some};
 ghost use Rattle.syn_form.specs.Plain as plain;
 ghost use Rattle.syn_form.specs.Plain.{IsFormedOut};
 ghost use Rattle.syn_model.specs.Specifications.{IsSpec};
 
-use crate::samples::{spec_of, spec_over, theory_of};
+use crate::samples::{spec_over, theory_of};
 use std::alloc::Global;
 use std::process::Abort;
 use std::test::Fail;
@@ -38,23 +38,35 @@ twice / goal true | if a = 0 then 0 else s(s(twice(p(a)))) => yes
 twice / goal true | if below(p(a), a) then a else 0 => no
 twice / goal true | if le(a, 0) then a else 0 => no";
 
-fn is_final_text(alloc: Global, name: &str, text: &str) -> Result<bool, Fail> {
-    let spec = spec_of(alloc, name)?;
-    let mut bank = Bank::new(alloc);
-    let row = read_row(alloc, &mut bank, &scope_of(spec.symbols()), text)?;
-    Ok(is_final(&spec, &row))
+/// The row of the text over the symbols.
+fn row_over(alloc: Global, syms: &Symbols, text: &str) -> Result<Row, Fail> {
+    read_row(alloc, &mut Bank::new(alloc), &scope_of(syms), text)
+}
+
+fn is_final_row(alloc: Global, spec: &Spec, text: &str) -> Result<bool, Fail> {
+    let row = row_over(alloc, spec.symbols(), text)?;
+    Ok(is_final(spec, &row))
+}
+
+fn is_final_text(alloc: Global, theory: &Theory, name: &str, text: &str) -> Result<bool, Fail> {
+    let spec = spec_over(alloc, theory, name)?;
+    is_final_row(alloc, &spec, text)
+}
+
+fn tell_final_rows(rt: &impl Abort, alloc: Global, theory: &Theory) -> Result<(), Fail> {
+    for line in FINAL.lines() {
+        let (case, want) = cut(line, " => ");
+        let (name, text) = cut(case, " / ");
+        let got = is_final_text(alloc, theory, name, text)?;
+        assert_eq!(rt; got, want == "yes", "at {line}");
+    }
+    Ok(())
 }
 
 #[test]
 fn tells_final_rows(rt: HostRuntime) -> Result<(), Fail> {
-    let alloc = rt.alloc();
-    for line in FINAL.lines() {
-        let (case, want) = cut(line, " => ");
-        let (name, text) = cut(case, " / ");
-        let got = is_final_text(alloc, name, text)?;
-        assert_eq!(rt; got, want == "yes", "at {line}");
-    }
-    Ok(())
+    let theory = theory_of(rt.alloc())?;
+    tell_final_rows(&rt, rt.alloc(), &theory)
 }
 
 /// A specification, a row, and the body of its program.
@@ -88,35 +100,18 @@ fn gives_result(spec: &Spec, out: &Out) -> bool
     gives(spec.symbols(), out, sort)
 }
 
-/// The program of the row.
-fn program_of_row(alloc: Global, theory: &Theory, spec: &Spec, row: &Row) -> Result<Program, Fail>
-    requires { IsSpec (theory.now).decls spec.now }
+/// Whether the row has no output, or one that a program may give.
+fn may_give(spec: &Spec, row: &Row) -> bool
+    ensures { IsTrue result → IfSome (row.now).out (λ o. IsFormedOut (spec.now).table o × (plain.given_sort (spec.now).table o ≡ Some (spec.now).head.result)) }
 {
-    let mut bank = Bank::new(alloc);
     match &row.out {
-        None => Ok(program_of(alloc, &mut bank, theory, spec, row)?),
-        Some(out) => {
-            if !is_formed_over(spec, out) {
-                return Err(Fail::new("no output"));
-            }
-            if !gives_result(spec, out) {
-                return Err(Fail::new("another sort"));
-            }
-            Ok(program_of(alloc, &mut bank, theory, spec, row)?)
-        }
+        None => true,
+        Some(out) => is_formed_over(spec, out) && gives_result(spec, out),
     }
 }
 
-fn body_text(alloc: Global, name: &str, text: &str) -> Result<String, Fail> {
-    let theory = theory_of(alloc)?;
-    let spec = spec_over(alloc, &theory, name)?;
-    let row = read_row(
-        alloc,
-        &mut Bank::new(alloc),
-        &scope_of(spec.symbols()),
-        text,
-    )?;
-    let program = program_of_row(alloc, &theory, &spec, &row)?;
+/// The text of the program's body.
+fn body_text(alloc: Global, program: &Program) -> Result<String, Fail> {
     let scope = Scope {
         syms: program.symbols(),
         names: &[],
@@ -125,14 +120,41 @@ fn body_text(alloc: Global, name: &str, text: &str) -> Result<String, Fail> {
     Ok(print_out(alloc, &scope, program.body())?)
 }
 
-#[test]
-fn makes_programs(rt: HostRuntime) -> Result<(), Fail> {
-    let alloc = rt.alloc();
+/// The text of the body of the row's program.
+fn body_of_row(alloc: Global, theory: &Theory, spec: &Spec, row: &Row) -> Result<String, Fail>
+    requires { IsSpec (theory.now).decls spec.now }
+{
+    if !may_give(spec, row) {
+        return Err(Fail::new("no program"));
+    }
+    let program = program_of(alloc, &mut Bank::new(alloc), theory, spec, row)?;
+    body_text(alloc, &program)
+}
+
+fn body_over(alloc: Global, theory: &Theory, spec: &Spec, text: &str) -> Result<String, Fail>
+    requires { IsSpec (theory.now).decls spec.now }
+{
+    let row = row_over(alloc, spec.symbols(), text)?;
+    body_of_row(alloc, theory, spec, &row)
+}
+
+fn body_of(alloc: Global, theory: &Theory, name: &str, text: &str) -> Result<String, Fail> {
+    let spec = spec_over(alloc, theory, name)?;
+    body_over(alloc, theory, &spec, text)
+}
+
+fn make_programs(rt: &impl Abort, alloc: Global, theory: &Theory) -> Result<(), Fail> {
     for line in PROGRAMS.lines() {
         let (case, want) = cut(line, " => ");
         let (name, text) = cut(case, " / ");
-        let got = body_text(alloc, name, text)?;
+        let got = body_of(alloc, theory, name, text)?;
         assert_eq!(rt; got.as_str(), want, "at {line}");
     }
     Ok(())
+}
+
+#[test]
+fn makes_programs(rt: HostRuntime) -> Result<(), Fail> {
+    let theory = theory_of(rt.alloc())?;
+    make_programs(&rt, rt.alloc(), &theory)
 }

@@ -1,9 +1,10 @@
 // The initial rows of specifications.
-use crate::samples::start_of;
+use crate::samples::{start_of, theory_of};
 use std::alloc::Global;
 use std::process::Abort;
 use std::test::Fail;
 use syn_cases::cut;
+use syn_model::Theory;
 use syn_row::Row;
 use syn_row_cases::{print_row, scope_of};
 use syn_start::{Start, def_row, goal_row, input_row};
@@ -46,23 +47,42 @@ fn row_of(alloc: Global, bank: &mut Bank, start: &Start, rule: &str) -> Result<O
     }
 }
 
-fn initial_text(alloc: Global, name: &str, rule: &str) -> Result<String, Fail> {
-    let mut bank = Bank::new(alloc);
-    let start = start_of(alloc, &mut bank, name)?;
-    match row_of(alloc, &mut bank, &start, rule)? {
+/// The text of the row of the rule.
+fn initial_row(alloc: Global, bank: &mut Bank, start: &Start, rule: &str) -> Result<String, Fail> {
+    match row_of(alloc, bank, start, rule)? {
         None => Ok(String::from_str(alloc, "none")?),
         Some(row) => print_row(alloc, &scope_of(start.symbols()), &row),
     }
 }
 
-#[test]
-fn makes_initial_rows(rt: HostRuntime) -> Result<(), Fail> {
-    let alloc = rt.alloc();
+fn initial_text(
+    alloc: Global,
+    bank: &mut Bank,
+    theory: &Theory,
+    name: &str,
+    rule: &str,
+) -> Result<String, Fail> {
+    let start = start_of(alloc, bank, theory, name)?;
+    initial_row(alloc, bank, &start, rule)
+}
+
+fn make_initial_rows(
+    rt: &impl Abort,
+    alloc: Global,
+    bank: &mut Bank,
+    theory: &Theory,
+) -> Result<(), Fail> {
     for line in INITIAL.lines() {
         let (case, want) = cut(line, " => ");
         let (name, rule) = cut(case, " ");
-        let got = initial_text(alloc, name, rule)?;
+        let got = initial_text(alloc, bank, theory, name, rule)?;
         assert_eq!(rt; got.as_str(), want, "at {line}");
     }
     Ok(())
+}
+
+#[test]
+fn makes_initial_rows(rt: HostRuntime) -> Result<(), Fail> {
+    let theory = theory_of(rt.alloc())?;
+    make_initial_rows(&rt, rt.alloc(), &mut Bank::new(rt.alloc()), &theory)
 }

@@ -64,17 +64,28 @@ pub fn theory_of(alloc: Global) -> Result<Theory, Fail> {
     }
 }
 
-/// The specification of this name, over the theory, with what a derivation begins with.
-pub fn start_of(alloc: Global, bank: &mut Bank, name: &str) -> Result<Start, Fail> {
-    let theory = theory_of(alloc)?;
-    let spec = spec_over(alloc, &theory, name)?;
+/// What a derivation over the two begins with.
+fn start_over(alloc: Global, bank: &mut Bank, theory: &Theory, spec: &Spec) -> Result<Start, Fail>
+    requires { IsSpec (theory.now).decls spec.now }
+{
     if !theory.is_whole() {
         return Err(Fail::new("a clause is missing"));
     }
     if !spec.is_whole() {
         return Err(Fail::new("no output condition"));
     }
-    Ok(Start::new(alloc, bank, &theory, &spec)?)
+    Ok(Start::new(alloc, bank, theory, spec)?)
+}
+
+/// What a derivation over the theory and the specification of this name begins with.
+pub fn start_of(
+    alloc: Global,
+    bank: &mut Bank,
+    theory: &Theory,
+    name: &str,
+) -> Result<Start, Fail> {
+    let spec = spec_over(alloc, theory, name)?;
+    start_over(alloc, bank, theory, &spec)
 }
 
 /// The specification of this name, over the theory.
@@ -86,10 +97,4 @@ pub fn spec_over(alloc: Global, theory: &Theory, name: &str) -> Result<Spec, Fai
         Ok(spec) => Ok(spec),
         Err(_) => Err(Fail::new("no specification")),
     }
-}
-
-/// The specification of this name.
-pub fn spec_of(alloc: Global, name: &str) -> Result<Spec, Fail> {
-    let theory = theory_of(alloc)?;
-    spec_over(alloc, &theory, name)
 }

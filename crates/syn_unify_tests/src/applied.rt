@@ -8,6 +8,7 @@ ghost use Rattle.syn_unify.specs.Bindings.{BindsOwn};
 
 use crate::forms::formed;
 use std::alloc::Global;
+use std::process::Abort;
 use std::test::Fail;
 use syn_cases::{added, cut};
 use syn_expr::{ExprError, Scope, print_form, print_out, read_form, read_out};
@@ -143,82 +144,214 @@ fn form_becomes(
     }
 }
 
-/// What both become by the unifier of both, where it is one.
+/// What both become, where it is one.
 #[tactic(auto, using(crate::proofs::Growth::growth))]
-fn made_one(alloc: Global, syms: &Symbols, left: &str, right: &str) -> Result<String, Fail> {
-    let mut bank = Bank::new(alloc);
-    let f = form_of(alloc, &mut bank, syms, left)?;
-    let g = form_of(alloc, &mut bank, syms, right)?;
-    let s = unifier_of(alloc, &mut bank, syms, &f, &g)?;
-    let text = form_becomes(alloc, &mut bank, syms, &s, &f)?;
-    let other = form_becomes(alloc, &mut bank, syms, &s, &g)?;
-    if text != other {
-        return Err(Fail::new("two formulas"));
+fn both_become(
+    alloc: Global,
+    bank: &mut Bank,
+    syms: &Symbols,
+    s: &Subst,
+    f: &Form,
+    g: &Form,
+) -> Result<String, Fail>
+    requires keeps { KeepsSorts syms.now s.now }
+    requires first { IsFormed syms.now f.now }
+    requires second { IsFormed syms.now g.now }
+    requires own { BindsOwn bank.old s.now }
+    requires first_own { All (Belongs bank.old) (form_terms f.now) }
+    requires second_own { All (Belongs bank.old) (form_terms g.now) }
+{
+    let text = form_becomes(alloc, bank, syms, s, f)?;
+    let other = form_becomes(alloc, bank, syms, s, g)?;
+    if text == other {
+        Ok(text)
+    } else {
+        Err(Fail::new("two formulas"))
     }
-    Ok(text)
 }
 
-#[test]
-fn makes_formulas_one(rt: HostRuntime) -> Result<(), Fail> {
-    let alloc = rt.alloc();
-    let syms = make_table(alloc)?;
+/// What both become by the unifier of both, where it is one.
+#[tactic(auto, using(crate::proofs::Growth::growth))]
+fn unified(
+    alloc: Global,
+    bank: &mut Bank,
+    syms: &Symbols,
+    f: &Form,
+    g: &Form,
+) -> Result<String, Fail>
+    requires first { IsFormed syms.now f.now }
+    requires second { IsFormed syms.now g.now }
+    requires first_own { All (Belongs bank.old) (form_terms f.now) }
+    requires second_own { All (Belongs bank.old) (form_terms g.now) }
+{
+    let s = unifier_of(alloc, bank, syms, f, g)?;
+    both_become(alloc, bank, syms, &s, f, g)
+}
+
+/// The same of a formula and that of the text.
+#[tactic(auto, using(crate::proofs::Growth::growth))]
+fn unified_with(
+    alloc: Global,
+    bank: &mut Bank,
+    syms: &Symbols,
+    f: &Form,
+    right: &str,
+) -> Result<String, Fail>
+    requires formed { IsFormed syms.now f.now }
+    requires own { All (Belongs bank.old) (form_terms f.now) }
+{
+    let g = form_of(alloc, bank, syms, right)?;
+    unified(alloc, bank, syms, f, &g)
+}
+
+/// The same of the formulas of two texts.
+#[tactic(auto, using(crate::proofs::Growth::growth))]
+fn made_one(
+    alloc: Global,
+    bank: &mut Bank,
+    syms: &Symbols,
+    left: &str,
+    right: &str,
+) -> Result<String, Fail> {
+    let f = form_of(alloc, bank, syms, left)?;
+    unified_with(alloc, bank, syms, &f, right)
+}
+
+fn make_formulas_one(rt: &impl Abort, alloc: Global, syms: &Symbols) -> Result<(), Fail> {
     for line in ROWS.lines() {
         let (both, wanted) = cut(line, " => ");
         let (left, right) = cut(both, " & ");
-        let found = made_one(alloc, &syms, left, right)?;
+        let found = made_one(alloc, &mut Bank::new(alloc), syms, left, right)?;
         assert_eq!(rt; found.as_str(), wanted);
     }
     Ok(())
 }
 
-/// How many nodes are made by the unifier of the formula and itself, which binds nothing, and what comes of the
-/// formula.
-#[tactic(auto, using(crate::proofs::Growth::growth))]
-fn kept(alloc: Global, syms: &Symbols, text: &str) -> Result<String, Fail> {
-    let mut bank = Bank::new(alloc);
-    let f = form_of(alloc, &mut bank, syms, text)?;
-    let s = unifier_of(alloc, &mut bank, syms, &f, &f)?;
+#[test]
+fn makes_formulas_one(rt: HostRuntime) -> Result<(), Fail> {
+    let syms = make_table(rt.alloc())?;
+    make_formulas_one(&rt, rt.alloc(), &syms)
+}
+
+/// How many variables are bound, how many nodes the formula's making takes, and what it becomes.
+fn told(alloc: Global, bank: &mut Bank, syms: &Symbols, s: &Subst, f: &Form) -> Result<String, Fail>
+    requires keeps { KeepsSorts syms.now s.now }
+    requires formed { IsFormed syms.now f.now }
+    requires own { BindsOwn bank.old s.now }
+    requires belongs { All (Belongs bank.old) (form_terms f.now) }
+{
     let before = bank.made();
-    let found = form_becomes(alloc, &mut bank, syms, &s, &f)?;
+    let found = form_becomes(alloc, bank, syms, s, f)?;
     let made = bank.made().saturating_sub(before);
     Ok(format!(in alloc; "{} {made} {found}", s.len())?)
 }
 
+/// The same by the unifier of the formula and itself, which binds nothing.
+#[tactic(auto, using(crate::proofs::Growth::growth))]
+fn told_of_itself(alloc: Global, bank: &mut Bank, syms: &Symbols, f: &Form) -> Result<String, Fail>
+    requires formed { IsFormed syms.now f.now }
+    requires own { All (Belongs bank.old) (form_terms f.now) }
+{
+    let s = unifier_of(alloc, bank, syms, f, f)?;
+    told(alloc, bank, syms, &s, f)
+}
+
+#[tactic(auto, using(crate::proofs::Growth::growth))]
+fn kept(alloc: Global, bank: &mut Bank, syms: &Symbols, text: &str) -> Result<String, Fail> {
+    let f = form_of(alloc, bank, syms, text)?;
+    told_of_itself(alloc, bank, syms, &f)
+}
+
 #[test]
 fn keeps_what_is_not_bound(rt: HostRuntime) -> Result<(), Fail> {
-    let alloc = rt.alloc();
-    let syms = make_table(alloc)?;
-    let found = kept(alloc, &syms, "le(?1, dbl(?2)) and ?1 = a")?;
+    let syms = make_table(rt.alloc())?;
+    let bank = &mut Bank::new(rt.alloc());
+    let found = kept(rt.alloc(), bank, &syms, "le(?1, dbl(?2)) and ?1 = a")?;
     assert_eq!(rt; found.as_str(), "0 0 le(?1, dbl(?2)) and ?1 = a");
     Ok(())
 }
 
-/// What the output becomes by the unifier of the two formulas.
-#[tactic(auto, using(crate::proofs::Growth::growth))]
+/// What the output becomes; `large` where that has too many nodes or levels.
 fn out_becomes(
     alloc: Global,
+    bank: &mut Bank,
     syms: &Symbols,
-    out: &str,
-    left: &str,
-    right: &str,
-) -> Result<String, Fail> {
-    let mut bank = Bank::new(alloc);
-    let o = out_of(alloc, &mut bank, syms, out)?;
-    let f = form_of(alloc, &mut bank, syms, left)?;
-    let g = form_of(alloc, &mut bank, syms, right)?;
-    let s = unifier_of(alloc, &mut bank, syms, &f, &g)?;
-    match apply_out(alloc, &mut bank, syms, &s, &o)? {
+    s: &Subst,
+    o: &Out,
+) -> Result<String, Fail>
+    requires keeps { KeepsSorts syms.now s.now }
+    requires formed { IsFormedOut syms.now o.now }
+    requires own { BindsOwn bank.old s.now }
+    requires belongs { All (Belongs bank.old) (out_terms o.now) }
+{
+    match apply_out(alloc, bank, syms, s, o)? {
         None => Ok(String::from_str(alloc, "large")?),
         Some(o) => Ok(print_out(alloc, &scope_of(syms), &o)?),
     }
 }
 
+/// What the output of the text becomes.
+#[tactic(auto, using(crate::proofs::Growth::growth))]
+fn text_becomes(
+    alloc: Global,
+    bank: &mut Bank,
+    syms: &Symbols,
+    s: &Subst,
+    text: &str,
+) -> Result<String, Fail>
+    requires keeps { KeepsSorts syms.now s.now }
+    requires own { BindsOwn bank.old s.now }
+{
+    let o = out_of(alloc, bank, syms, text)?;
+    out_becomes(alloc, bank, syms, s, &o)
+}
+
+/// The unifier of the formula and that of the text.
+#[tactic(auto, using(crate::proofs::Growth::growth))]
+fn unifier_with(
+    alloc: Global,
+    bank: &mut Bank,
+    syms: &Symbols,
+    f: &Form,
+    right: &str,
+) -> Result<Subst, Fail>
+    requires formed { IsFormed syms.now f.now }
+    requires belongs { All (Belongs bank.old) (form_terms f.now) }
+    ensures extends { Extends bank.old bank.new }
+    ensures keeps { IfOk result (KeepsSorts syms.now) }
+    ensures own { IfOk result (BindsOwn bank.new) }
+{
+    let g = form_of(alloc, bank, syms, right)?;
+    unifier_of(alloc, bank, syms, f, &g)
+}
+
+/// The unifier of the formulas of two texts.
+#[tactic(auto, using(crate::proofs::Growth::growth))]
+fn unifier_of_texts(
+    alloc: Global,
+    bank: &mut Bank,
+    syms: &Symbols,
+    left: &str,
+    right: &str,
+) -> Result<Subst, Fail>
+    ensures extends { Extends bank.old bank.new }
+    ensures keeps { IfOk result (KeepsSorts syms.now) }
+    ensures own { IfOk result (BindsOwn bank.new) }
+{
+    let f = form_of(alloc, bank, syms, left)?;
+    unifier_with(alloc, bank, syms, &f, right)
+}
+
+#[tactic(auto, using(crate::proofs::Growth::growth))]
+fn applied_to_output(alloc: Global, bank: &mut Bank, syms: &Symbols) -> Result<String, Fail> {
+    let s = unifier_of_texts(alloc, bank, syms, "?1 = 0", "a = 0")?;
+    text_becomes(alloc, bank, syms, &s, "if le(?1, b) then ?1 else s(?1)")
+}
+
 #[test]
 fn applies_to_outputs(rt: HostRuntime) -> Result<(), Fail> {
-    let alloc = rt.alloc();
-    let syms = make_table(alloc)?;
-    let out = "if le(?1, b) then ?1 else s(?1)";
-    let found = out_becomes(alloc, &syms, out, "?1 = 0", "a = 0")?;
+    let syms = make_table(rt.alloc())?;
+    let found = applied_to_output(rt.alloc(), &mut Bank::new(rt.alloc()), &syms)?;
     assert_eq!(rt; found.as_str(), "if le(a, b) then a else s(a)");
     Ok(())
 }

@@ -2,18 +2,21 @@
 ghost use Rattle.std.specs.Prelude.{◌≡◌, ◌∷◌, [], All, IfOk};
 ghost use Rattle.std.specs.List.{flat_map};
 ghost use Rattle.syn_term.specs.Bank.{Belongs, Extends};
-ghost use Rattle.syn_form.specs.Plain.{IsFormed};
+ghost use Rattle.syn_form.specs.Plain.{IsFormed, IsSorted};
+ghost use Rattle.syn_form.specs.Substitutions.{KeepsSorts};
+ghost use Rattle.syn_unify.specs.Bindings.{BindsOwn};
 ghost use Rattle.syn_form.specs.Trees.{form_terms};
 
 use crate::samples::{LESS, make_table, term_of};
 use crate::unifying::becomes;
 use sqlite_items::Items;
 use std::alloc::Global;
+use std::process::Abort;
 use std::test::Fail;
 use syn_cases::cut;
 use syn_form::{Form, is_formed_form};
 use syn_term::{Bank, NoMemory, Shared, Symbols, Term};
-use syn_unify::unify_forms;
+use syn_unify::{Subst, unify_forms};
 
 /// Formulas `le(s, t)`, each as its two terms and how it is made: `r` an atom, `e` an equality, `n` a negated
 /// atom, `a` `P and P`, `o` `P or P`, `i` `P -> P`, `t` true, `f` false; a term; and how many variables are
@@ -191,31 +194,78 @@ fn forms_of(
     Ok(forms)
 }
 
-/// How many variables of the formulas of these codes are bound, and what the term becomes; `no` where
-/// nothing makes the formulas one.
+/// How many variables are bound, and what the term becomes.
+fn told(alloc: Global, bank: &mut Bank, syms: &Symbols, s: &Subst, t: &Term) -> Result<String, Fail>
+    requires keeps { KeepsSorts syms.now s.now }
+    requires sorted { IsSorted syms.now t.now }
+    requires own { BindsOwn bank.old s.now }
+    requires belongs { Belongs bank.old t.now }
+{
+    let text = becomes(alloc, bank, syms, s, t)?;
+    Ok(format!(in alloc; "{} {text}", s.len())?)
+}
+
+/// How many variables of the formulas are bound, and what the term becomes; `no` where nothing makes the formulas one.
 #[tactic(auto, using(crate::proofs::Growth::growth))]
-fn answer(alloc: Global, syms: &Symbols, codes: &str, term: &str) -> Result<String, Fail> {
-    let mut bank = Bank::new(alloc);
-    let forms = forms_of(alloc, &mut bank, syms, codes)?;
-    let t = term_of(alloc, &mut bank, syms, term)?;
-    match unify_forms(alloc, &mut bank, syms, forms.as_slice())? {
-        None => Ok(format!(in alloc; "no")?),
-        Some(s) => {
-            let text = becomes(alloc, &mut bank, syms, &s, &t)?;
-            Ok(format!(in alloc; "{} {text}", s.len())?)
-        }
+fn answer(
+    alloc: Global,
+    bank: &mut Bank,
+    syms: &Symbols,
+    forms: &[Form],
+    t: &Term,
+) -> Result<String, Fail>
+    requires formed { All (IsFormed syms.now) forms.now }
+    requires sorted { IsSorted syms.now t.now }
+    requires own { All (Belongs bank.old) (flat_map form_terms forms.now) }
+    requires belongs { Belongs bank.old t.now }
+{
+    match unify_forms(alloc, bank, syms, forms)? {
+        None => Ok(String::from_str(alloc, "no")?),
+        Some(s) => told(alloc, bank, syms, &s, t),
     }
+}
+
+/// The same of the formulas of these codes.
+#[tactic(auto, using(crate::proofs::Growth::growth))]
+fn answer_of(
+    alloc: Global,
+    bank: &mut Bank,
+    syms: &Symbols,
+    codes: &str,
+    t: &Term,
+) -> Result<String, Fail>
+    requires sorted { IsSorted syms.now t.now }
+    requires belongs { Belongs bank.old t.now }
+{
+    let forms = forms_of(alloc, bank, syms, codes)?;
+    answer(alloc, bank, syms, forms.as_slice(), t)
+}
+
+/// The same with the term of this code.
+#[tactic(auto, using(crate::proofs::Growth::growth))]
+fn answer_of_codes(
+    alloc: Global,
+    bank: &mut Bank,
+    syms: &Symbols,
+    codes: &str,
+    term: &str,
+) -> Result<String, Fail> {
+    let t = term_of(alloc, bank, syms, term)?;
+    answer_of(alloc, bank, syms, codes, &t)
+}
+
+fn unify_rows(rt: &impl Abort, alloc: Global, syms: &Symbols) -> Result<(), Fail> {
+    for line in ROWS.lines() {
+        let (row, wanted) = cut(line, " => ");
+        let (codes, term) = cut(row, " | ");
+        let found = answer_of_codes(alloc, &mut Bank::new(alloc), syms, codes, term)?;
+        assert_eq!(rt; found.as_str(), wanted);
+    }
+    Ok(())
 }
 
 #[test]
 fn unifies_forms(rt: HostRuntime) -> Result<(), Fail> {
-    let alloc = rt.alloc();
-    let syms = make_table(alloc)?;
-    for line in ROWS.lines() {
-        let (row, wanted) = cut(line, " => ");
-        let (codes, term) = cut(row, " | ");
-        let found = answer(alloc, &syms, codes, term)?;
-        assert_eq!(rt; found.as_str(), wanted);
-    }
-    Ok(())
+    let syms = make_table(rt.alloc())?;
+    unify_rows(&rt, rt.alloc(), &syms)
 }
