@@ -99,8 +99,8 @@ fn reads_programs(rt: HostRuntime) -> Result<(), Fail> {
 
 /// Texts whose ends are wrong, each `/` a line feed, with the line that is refused.
 const ENDS: &str = "\
- => 1
 / => 2
+ => 1
 program f(a: nat): nat => 1
 program f(a: nat): nat/ => 2
 program f(a: nat): nat//# one/ => 4
