@@ -27,16 +27,16 @@ input x : : nat => no
 program gap : nat : nat => 7";
 
 /// The symbol of a line.
-fn symbol(alloc: Global, kind: &str, name: &str, args: &str, result: &str) -> Result<Sym, Fail> {
-    let result = result.trim_ascii();
+fn symbol(alloc: Global, kind: &str, name: &str, args: &str, value: &str) -> Result<Sym, Fail> {
+    let value = value.trim_ascii();
     Ok(Sym {
         name: Text::from_str(alloc, name)?,
         kind: kind_of(kind),
         args: sorts_of(alloc, args)?,
-        result: if result.is_empty() {
+        result: if value.is_empty() {
             None
         } else {
-            Some(sort_of(result))
+            Some(sort_of(value))
         },
     })
 }

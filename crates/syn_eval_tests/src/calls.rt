@@ -1,5 +1,6 @@
 // Calls with their values and turns, and formulas with their truth values.
 ghost use Rattle.std.specs.Prelude.{◌≤◌, ◌^◌};
+ghost use Rattle.syn_eval.specs.Ending.{AllFit};
 
 use crate::problems::{args_of, form_of, program_of, spec_of, theory_of};
 use std::alloc::Global;
@@ -7,10 +8,11 @@ use std::process::Abort;
 use std::test::Fail;
 use syn_cases::cut;
 use syn_eval::{EvalError, eval, holds};
+use syn_form::Form;
 use syn_machine::{run_program, run_test};
-use syn_model::{Spec, Theory};
-use syn_term::decimal_number;
-use syn_value::print_value;
+use syn_model::{Program, Spec, Theory};
+use syn_term::{Symbols, decimal_number};
+use syn_value::{Value, print_value};
 
 /// A head and a body; values of the inputs and the turns that are given; and the value with the turns
 /// that it took, `spent` where there is none.
@@ -99,7 +101,62 @@ fn case_of(line: &str) -> Case<'_>
     }
 }
 
+/// What the program gives.
+fn evaluated(
+    alloc: Global,
+    by: Evaluator,
+    theory: &Theory,
+    program: &Program,
+    args: &[Value],
+    turns: u64,
+) -> Result<(Value, u64), EvalError>
+    requires { AllFit turns args.now }
+{
+    match by {
+        Evaluator::Recursion => eval(alloc, theory, program, args, turns),
+        Evaluator::Machine => run_program(alloc, theory, program, args, turns),
+    }
+}
+
 /// The value with its turns, as the table writes it.
+fn value_text(alloc: Global, value: &Value, turns: u64) -> Result<String, Fail> {
+    let text = print_value(alloc, value)?;
+    Ok(format!(in alloc; "{} in {turns}", text.as_str())?)
+}
+
+/// What the program gives, as the table writes it.
+fn answer(
+    alloc: Global,
+    by: Evaluator,
+    theory: &Theory,
+    program: &Program,
+    args: &[Value],
+    turns: u64,
+) -> Result<String, Fail>
+    requires { AllFit turns args.now }
+{
+    match evaluated(alloc, by, theory, program, args, turns) {
+        Ok((value, turns)) => value_text(alloc, &value, turns),
+        Err(EvalError::TurnsSpent) => Ok(String::from_str(alloc, "spent")?),
+        Err(EvalError::NoMemory) => Err(Fail::new("no memory")),
+    }
+}
+
+/// What the program of the case gives for these values.
+fn called_with(
+    alloc: Global,
+    by: Evaluator,
+    theory: &Theory,
+    spec: &Spec,
+    case: &Case<'_>,
+    args: &[Value],
+) -> Result<String, Fail>
+    requires { AllFit (case.now).turns args.now }
+{
+    let program = program_of(alloc, theory, spec, case.text)?;
+    answer(alloc, by, theory, &program, args, case.turns)
+}
+
 fn called(
     alloc: Global,
     by: Evaluator,
@@ -110,23 +167,60 @@ fn called(
     requires { (case.now).turns ≤ 2 ^ 32 }
 {
     let values = args_of(alloc, spec, case.args)?;
-    let args = values.as_slice();
-    let program = program_of(alloc, theory, spec, case.text)?;
-    let answer = match by {
-        Evaluator::Recursion => eval(alloc, theory, &program, args, case.turns),
-        Evaluator::Machine => run_program(alloc, theory, &program, args, case.turns),
-    };
-    match answer {
-        Ok((value, turns)) => {
-            let text = print_value(alloc, &value)?;
-            Ok(format!(in alloc; "{} in {turns}", text.as_str())?)
-        }
-        Err(EvalError::TurnsSpent) => Ok(String::from_str(alloc, "spent")?),
-        Err(EvalError::NoMemory) => Err(Fail::new("no memory")),
+    called_with(alloc, by, theory, spec, case, values.as_slice())
+}
+
+/// What the program of the case gives, as the table writes it.
+fn called_by(alloc: Global, by: Evaluator, theory: &Theory, case: &Case<'_>) -> Result<String, Fail>
+    requires { (case.now).turns ≤ 2 ^ 32 }
+{
+    let spec = spec_of(alloc, theory, case.head)?;
+    called(alloc, by, theory, &spec, case)
+}
+
+/// The truth value of the formula.
+fn truth(
+    alloc: Global,
+    by: Evaluator,
+    theory: &Theory,
+    syms: &Symbols,
+    form: &Form,
+    args: &[Value],
+    turns: u64,
+) -> Result<bool, EvalError>
+    requires { AllFit turns args.now }
+{
+    match by {
+        Evaluator::Recursion => holds(alloc, theory, syms, form, args, turns),
+        Evaluator::Machine => run_test(alloc, theory, syms, form, args, turns),
     }
 }
 
 /// The truth value, as the table writes it.
+fn truth_text(found: Result<bool, EvalError>) -> Result<&'static str, Fail> {
+    match found {
+        Ok(true) => Ok("yes"),
+        Ok(false) => Ok("no"),
+        Err(EvalError::TurnsSpent) => Ok("spent"),
+        Err(EvalError::NoMemory) => Err(Fail::new("no memory")),
+    }
+}
+
+/// The truth value of the formula of the case for these values.
+fn told_with(
+    alloc: Global,
+    by: Evaluator,
+    theory: &Theory,
+    syms: &Symbols,
+    case: &Case<'_>,
+    args: &[Value],
+) -> Result<&'static str, Fail>
+    requires { AllFit (case.now).turns args.now }
+{
+    let form = form_of(alloc, syms, case.text)?;
+    truth_text(truth(alloc, by, theory, syms, &form, args, case.turns))
+}
+
 fn told(
     alloc: Global,
     by: Evaluator,
@@ -137,30 +231,53 @@ fn told(
     requires { (case.now).turns ≤ 2 ^ 32 }
 {
     let values = args_of(alloc, spec, case.args)?;
-    let args = values.as_slice();
-    let syms = spec.symbols();
-    let form = form_of(alloc, syms, case.text)?;
-    let answer = match by {
-        Evaluator::Recursion => holds(alloc, theory, syms, &form, args, case.turns),
-        Evaluator::Machine => run_test(alloc, theory, syms, &form, args, case.turns),
-    };
-    match answer {
-        Ok(true) => Ok("yes"),
-        Ok(false) => Ok("no"),
-        Err(EvalError::TurnsSpent) => Ok("spent"),
-        Err(EvalError::NoMemory) => Err(Fail::new("no memory")),
+    told_with(alloc, by, theory, spec.symbols(), case, values.as_slice())
+}
+
+/// The truth value of the formula of the case.
+fn told_by(
+    alloc: Global,
+    by: Evaluator,
+    theory: &Theory,
+    case: &Case<'_>,
+) -> Result<&'static str, Fail>
+    requires { (case.now).turns ≤ 2 ^ 32 }
+{
+    let spec = spec_of(alloc, theory, case.head)?;
+    told(alloc, by, theory, &spec, case)
+}
+
+fn check_calls_over(
+    rt: &impl Abort,
+    alloc: Global,
+    by: Evaluator,
+    theory: &Theory,
+    table: &str,
+) -> Result<(), Fail> {
+    for line in table.lines() {
+        let (case, want) = cut(line, " => ");
+        let got = called_by(alloc, by, theory, &case_of(case))?;
+        assert_eq!(rt; got.as_str(), want, "at {line}");
     }
+    Ok(())
 }
 
 /// Each call of the table gives what its row says.
 fn check_calls(rt: &impl Abort, alloc: Global, by: Evaluator, table: &str) -> Result<(), Fail> {
     let theory = theory_of(alloc)?;
-    for line in table.lines() {
+    check_calls_over(rt, alloc, by, &theory, table)
+}
+
+fn check_formulas_over(
+    rt: &impl Abort,
+    alloc: Global,
+    by: Evaluator,
+    theory: &Theory,
+) -> Result<(), Fail> {
+    for line in FORMULAS.lines() {
         let (case, want) = cut(line, " => ");
-        let case = case_of(case);
-        let spec = spec_of(alloc, &theory, case.head)?;
-        let got = called(alloc, by, &theory, &spec, &case)?;
-        assert_eq!(rt; got.as_str(), want, "at {line}");
+        let got = told_by(alloc, by, theory, &case_of(case))?;
+        assert_eq!(rt; got, want, "at {line}");
     }
     Ok(())
 }
@@ -168,14 +285,7 @@ fn check_calls(rt: &impl Abort, alloc: Global, by: Evaluator, table: &str) -> Re
 /// Each formula of the table has the truth value that its row says.
 fn check_formulas(rt: &impl Abort, alloc: Global, by: Evaluator) -> Result<(), Fail> {
     let theory = theory_of(alloc)?;
-    for line in FORMULAS.lines() {
-        let (case, want) = cut(line, " => ");
-        let case = case_of(case);
-        let spec = spec_of(alloc, &theory, case.head)?;
-        let got = told(alloc, by, &theory, &spec, &case)?;
-        assert_eq!(rt; got, want, "at {line}");
-    }
-    Ok(())
+    check_formulas_over(rt, alloc, by, &theory)
 }
 
 #[test]

@@ -77,16 +77,39 @@ fn input_of(alloc: Global, syms: &Symbols, id: SymId) -> Result<(String, Sort), 
     }
 }
 
-/// The head of the specification's program, as the head of a program.
-fn head_of(alloc: Global, theory: &Theory, spec: &Spec) -> Result<ProgramHead, Fail> {
-    let (name, result) = input_of(alloc, spec.symbols(), spec.program())?;
+/// The names of the inputs with their sorts.
+fn inputs_of(alloc: Global, spec: &Spec) -> Result<Vec<(String, Sort)>, Fail> {
     let mut inputs = Vec::new(alloc);
     for id in spec.inputs() {
         inputs.push(input_of(alloc, spec.symbols(), *id)?)?;
     }
-    match ProgramHead::new(alloc, theory, name.as_str(), inputs.as_slice(), result) {
+    Ok(inputs)
+}
+
+/// The head with these inputs.
+fn head_with(
+    alloc: Global,
+    theory: &Theory,
+    spec: &Spec,
+    inputs: &[(String, Sort)],
+) -> Result<ProgramHead, Fail> {
+    let (name, result) = input_of(alloc, spec.symbols(), spec.program())?;
+    match ProgramHead::new(alloc, theory, name.as_str(), inputs, result) {
         Ok(head) => Ok(head),
         Err(_) => Err(Fail::new("no head")),
+    }
+}
+
+/// The head of the specification's program, as the head of a program.
+fn head_of(alloc: Global, theory: &Theory, spec: &Spec) -> Result<ProgramHead, Fail> {
+    let inputs = inputs_of(alloc, spec)?;
+    head_with(alloc, theory, spec, inputs.as_slice())
+}
+
+fn made(head: ProgramHead, body: Out) -> Result<Program, Fail> {
+    match Program::new(head, body) {
+        Ok(program) => Ok(program),
+        Err(_) => Err(Fail::new("no program")),
     }
 }
 
@@ -98,10 +121,12 @@ pub(crate) fn program_of(
     text: &str,
 ) -> Result<Program, Fail> {
     let head = head_of(alloc, theory, spec)?;
-    let body = body_of(alloc, head.symbols(), text)?;
-    match Program::new(head, body) {
-        Ok(program) => Ok(program),
-        Err(_) => Err(Fail::new("no program")),
+    match body_of(alloc, head.symbols(), text) {
+        Ok(body) => made(head, body),
+        Err(fail) => {
+            drop(head);
+            Err(fail)
+        }
     }
 }
 

@@ -5,6 +5,7 @@ ghost use Rattle.syn_term.specs.Bank.{Belongs};
 
 use sqlite_items::Items;
 use std::alloc::Global;
+use std::process::Abort;
 use std::test::Fail;
 use syn_cases::added;
 use syn_expr::{Scope, print_form, print_out, print_qform, print_term};
@@ -271,31 +272,67 @@ fn text_of(alloc: Global, table: &Table, sample: Sample) -> Result<String, Fail>
     }
 }
 
+/// The text of the sample.
+fn prints(
+    rt: &impl Abort,
+    alloc: Global,
+    table: &Table,
+    sample: Sample,
+    want: &str,
+) -> Result<(), Fail> {
+    let text = text_of(alloc, table, sample)?;
+    assert_eq!(rt; text.as_str(), want);
+    Ok(())
+}
+
+fn print_terms(rt: &impl Abort, alloc: Global, table: &Table) -> Result<(), Fail> {
+    prints(rt, alloc, table, Sample::Number(0), "0")?;
+    prints(rt, alloc, table, Sample::Number(1000), "1000")?;
+    prints(rt, alloc, table, Sample::Number(1001), "s(1000)")?;
+    prints(rt, alloc, table, Sample::Number(1003), "s(s(s(1000)))")?;
+    prints(rt, alloc, table, Sample::Row(1), "?1")?;
+    prints(rt, alloc, table, Sample::ListRow(2), "?2:L")?;
+    prints(rt, alloc, table, Sample::Successor, "s(?3)")?;
+    prints(rt, alloc, table, Sample::Skolem, "!gap.1(?1)")
+}
+
+fn print_formulas(rt: &impl Abort, alloc: Global, table: &Table) -> Result<(), Fail> {
+    prints(
+        rt,
+        alloc,
+        table,
+        Sample::Chain,
+        "(le(a, b) or a = b) and true",
+    )?;
+    prints(rt, alloc, table, Sample::NotEqual, "not a = b")?;
+    prints(
+        rt,
+        alloc,
+        table,
+        Sample::NotChain,
+        "not ((le(a, b) or a = b) and true)",
+    )?;
+    prints(rt, alloc, table, Sample::Steps, "a = b -> (b = a -> false)")?;
+    prints(
+        rt,
+        alloc,
+        table,
+        Sample::Bounded,
+        "all x: nat. (some y: L. le(x, y))",
+    )?;
+    prints(rt, alloc, table, Sample::Named, "all x: nat. x = n")?;
+    prints(
+        rt,
+        alloc,
+        table,
+        Sample::Choices,
+        "if a = 0 then b else if b = 0 then a else 0",
+    )
+}
+
 #[test]
 fn prints_samples(rt: HostRuntime) -> Result<(), Fail> {
-    let alloc = rt.alloc();
-    let table = make_table(alloc)?;
-    for (sample, want) in [
-        (Sample::Number(0), "0"),
-        (Sample::Number(1000), "1000"),
-        (Sample::Number(1001), "s(1000)"),
-        (Sample::Row(1), "?1"),
-        (Sample::ListRow(2), "?2:L"),
-        (Sample::Successor, "s(?3)"),
-        (Sample::Skolem, "!gap.1(?1)"),
-        (Sample::Chain, "(le(a, b) or a = b) and true"),
-        (Sample::NotEqual, "not a = b"),
-        (Sample::NotChain, "not ((le(a, b) or a = b) and true)"),
-        (Sample::Steps, "a = b -> (b = a -> false)"),
-        (Sample::Bounded, "all x: nat. (some y: L. le(x, y))"),
-        (Sample::Named, "all x: nat. x = n"),
-        (
-            Sample::Choices,
-            "if a = 0 then b else if b = 0 then a else 0",
-        ),
-    ] {
-        let text = text_of(alloc, &table, sample)?;
-        assert_eq!(rt; text.as_str(), want);
-    }
-    Ok(())
+    let table = make_table(rt.alloc())?;
+    print_terms(&rt, rt.alloc(), &table)?;
+    print_formulas(&rt, rt.alloc(), &table)
 }

@@ -188,20 +188,41 @@ fn in_row(alloc: Global, syms: &Symbols, kind: &str, text: &str) -> Result<Strin
     text_of(again(alloc, &scope, kind, text), alloc)
 }
 
-/// Each text of the table is printed as the one beside it, or refused where there is none.
-fn walk<R: Abort>(rt: &R, alloc: Global, rows: bool, table: &str) -> Result<(), Fail> {
-    let syms = make_table(alloc)?;
+/// In rows or in a file.
+fn read_again(
+    alloc: Global,
+    syms: &Symbols,
+    rows: bool,
+    kind: &str,
+    text: &str,
+) -> Result<String, Fail> {
+    if rows {
+        in_row(alloc, syms, kind, text)
+    } else {
+        in_file(alloc, syms, kind, text)
+    }
+}
+
+fn walk_over(
+    rt: &impl Abort,
+    alloc: Global,
+    syms: &Symbols,
+    rows: bool,
+    table: &str,
+) -> Result<(), Fail> {
     for line in table.lines() {
         let (case, want) = cut(line, " =>");
         let (kind, text) = cut(case, " ");
-        let got = if rows {
-            in_row(alloc, &syms, kind, text)?
-        } else {
-            in_file(alloc, &syms, kind, text)?
-        };
+        let got = read_again(alloc, syms, rows, kind, text)?;
         assert_eq!(rt; got.as_str(), want.trim_ascii(), "at {text}");
     }
     Ok(())
+}
+
+/// Each text of the table is printed as the one beside it, or refused where there is none.
+fn walk(rt: &impl Abort, alloc: Global, rows: bool, table: &str) -> Result<(), Fail> {
+    let syms = make_table(alloc)?;
+    walk_over(rt, alloc, &syms, rows, table)
 }
 
 #[test]
@@ -221,18 +242,28 @@ fn is_read(alloc: Global, kind: &str, text: &str) -> Result<bool, Fail> {
     Ok(!got.is_empty())
 }
 
+/// Formulas with a line feed, each `/` one, between bars.
+const FED: &str = "dbl(0) # x/= b|dbl(0) = b/|/dbl(0) = b|dbl(/0) = b|dbl(0) = b # x/";
+
+/// The text with line feeds.
+fn fed(alloc: Global, case: &str) -> Result<String, Fail> {
+    let mut text = String::new(alloc);
+    for c in case.chars() {
+        text.push(if c == '/' { '\n' } else { c })?;
+    }
+    Ok(text)
+}
+
+fn is_fed_read(alloc: Global, case: &str) -> Result<bool, Fail> {
+    let text = fed(alloc, case)?;
+    is_read(alloc, "form", text.as_str())
+}
+
 /// A line feed stands nowhere in an expression, in a comment and behind one neither.
 #[test]
 fn refuses_line_feeds(rt: HostRuntime) -> Result<(), Fail> {
-    let alloc = rt.alloc();
-    for text in [
-        "dbl(0) # x\n= b",
-        "dbl(0) = b\n",
-        "\ndbl(0) = b",
-        "dbl(\n0) = b",
-        "dbl(0) = b # x\n",
-    ] {
-        assert!(rt; !is_read(alloc, "form", text)?, "at {text}");
+    for case in FED.split('|') {
+        assert!(rt; !is_fed_read(rt.alloc(), case)?, "at {case}");
     }
     Ok(())
 }
@@ -250,27 +281,23 @@ fn round(alloc: Global, before: &str, after: &str, times: u32) -> Result<String,
     Ok(text)
 }
 
+fn is_round_read(alloc: Global, before: &str, after: &str, times: u32) -> Result<bool, Fail> {
+    let text = round(alloc, before, after, times)?;
+    is_read(alloc, "form", text.as_str())
+}
+
 #[test]
 fn reads_up_to_the_limits(rt: HostRuntime) -> Result<(), Fail> {
-    let alloc = rt.alloc();
-    for (before, times, reads) in [
-        ("not ", 1_199, true),
-        ("not ", 1_200, false),
-        ("true and ", 4_094, true),
-        ("true and ", 4_095, false),
-    ] {
-        let text = round(alloc, before, "", times)?;
-        let got = is_read(alloc, "form", text.as_str())?;
-        assert!(rt; reads == got, "at {times} times {before}");
-    }
+    assert!(rt; is_round_read(rt.alloc(), "not ", "", 1_199)?);
+    assert!(rt; !is_round_read(rt.alloc(), "not ", "", 1_200)?);
+    assert!(rt; is_round_read(rt.alloc(), "true and ", "", 4_094)?);
+    assert!(rt; !is_round_read(rt.alloc(), "true and ", "", 4_095)?);
     Ok(())
 }
 
 #[test]
 fn reads_many_brackets(rt: HostRuntime) -> Result<(), Fail> {
-    let alloc = rt.alloc();
-    let text = round(alloc, "(", ")", 1_000_000)?;
-    assert!(rt; is_read(alloc, "form", text.as_str())?);
+    assert!(rt; is_round_read(rt.alloc(), "(", ")", 1_000_000)?);
     Ok(())
 }
 
@@ -284,20 +311,38 @@ fn choice(alloc: Global, more: u32) -> Result<String, Fail> {
     Ok(text)
 }
 
+fn is_choice_read(alloc: Global, kind: &str, more: u32) -> Result<bool, Fail> {
+    let text = choice(alloc, more)?;
+    is_read(alloc, kind, text.as_str())
+}
+
 #[test]
 fn reads_larger_bodies(rt: HostRuntime) -> Result<(), Fail> {
-    let alloc = rt.alloc();
-    for (kind, more, reads) in [
-        ("out", 4_091, true),
-        ("out", 4_092, false),
-        ("body", 4_092, true),
-        ("body", 262_139, true),
-        ("body", 262_140, false),
-    ] {
-        let text = choice(alloc, more)?;
-        let got = is_read(alloc, kind, text.as_str())?;
-        assert!(rt; reads == got, "with {more} members more");
-    }
+    assert!(rt; is_choice_read(rt.alloc(), "out", 4_091)?);
+    assert!(rt; !is_choice_read(rt.alloc(), "out", 4_092)?);
+    assert!(rt; is_choice_read(rt.alloc(), "body", 4_092)?);
+    assert!(rt; is_choice_read(rt.alloc(), "body", 262_139)?);
+    assert!(rt; !is_choice_read(rt.alloc(), "body", 262_140)?);
+    Ok(())
+}
+
+/// Whether the text is refused by the bank.
+fn is_refused(alloc: Global, bank: &mut Bank, syms: &Symbols, text: &str) -> bool {
+    let scope = Scope {
+        syms,
+        names: &[],
+        rows: false,
+    };
+    matches!(
+        read_form(alloc, bank, &scope, text),
+        Err(ExprError::Refused)
+    )
+}
+
+fn refuse_at_once(rt: &impl Abort, alloc: Global, bank: &mut Bank, text: &str) -> Result<(), Fail> {
+    let syms = make_table(alloc)?;
+    assert!(rt; is_refused(alloc, bank, &syms, text));
+    assert!(rt; bank.made() == 0);
     Ok(())
 }
 
@@ -305,17 +350,6 @@ fn reads_larger_bodies(rt: HostRuntime) -> Result<(), Fail> {
 /// made.
 #[test]
 fn refuses_past_the_limit_at_once(rt: HostRuntime) -> Result<(), Fail> {
-    let alloc = rt.alloc();
-    let syms = make_table(alloc)?;
-    let scope = Scope {
-        syms: &syms,
-        names: &[],
-        rows: false,
-    };
-    let text = round(alloc, "(a = b <-> ", ")", 300)?;
-    let mut bank = Bank::new(alloc);
-    let read = read_form(alloc, &mut bank, &scope, text.as_str());
-    assert!(rt; matches!(read, Err(ExprError::Refused)));
-    assert_eq!(rt; bank.made(), 0);
-    Ok(())
+    let text = round(rt.alloc(), "(a = b <-> ", ")", 300)?;
+    refuse_at_once(&rt, rt.alloc(), &mut Bank::new(rt.alloc()), text.as_str())
 }

@@ -6,6 +6,7 @@ ghost use Rattle.syn_term.specs.Bank.{Belongs};
 
 use sqlite_items::Items;
 use std::alloc::Global;
+use std::process::Abort;
 use std::test::Fail;
 use syn_form::{Binder, Form, Out, Part, QForm, polarity};
 use syn_term::{Bank, NoMemory, Pos, Shared, Sort, SymId, Term, Text, Var};
@@ -173,10 +174,10 @@ fn compared_wide(alloc: Global, nodes: u32, others: u32) -> Result<(u64, u64, bo
 #[test]
 fn measures_and_compares_large_formulas(rt: HostRuntime) -> Result<(), Fail> {
     let alloc = rt.alloc();
-    assert_eq!(rt; compared_tall(alloc, 2400, 2400)?, (2400, 2400, true));
-    assert_eq!(rt; compared_tall(alloc, 2400, 2399)?, (2400, 2400, false));
-    assert_eq!(rt; compared_wide(alloc, 65_536, 65_536)?, (65_536, 2, true));
-    assert_eq!(rt; compared_wide(alloc, 65_536, 65_535)?, (65_536, 2, false));
+    assert!(rt; compared_tall(alloc, 2400, 2400)? == (2400, 2400, true));
+    assert!(rt; compared_tall(alloc, 2400, 2399)? == (2400, 2400, false));
+    assert!(rt; compared_wide(alloc, 65_536, 65_536)? == (65_536, 2, true));
+    assert!(rt; compared_wide(alloc, 65_536, 65_535)? == (65_536, 2, false));
     Ok(())
 }
 
@@ -211,17 +212,24 @@ fn out_measure(o: &Out, cap: u32) -> (u64, u64) {
     (o.size(cap), o.depth(cap))
 }
 
+/// A choice between a variable and the same variable.
+fn choice_of_variable(alloc: Global, bank: &mut Bank) -> Result<Out, NoMemory> {
+    let t = variable(alloc, bank, 1)?;
+    choice(alloc, &t)
+}
+
+fn measures_output(rt: &impl Abort, o: &Out) {
+    assert!(rt; out_measure(o, 0) == (1, 1));
+    assert!(rt; out_measure(o, 1) == (2, 2));
+    assert!(rt; out_measure(o, 2) == (3, 2));
+    assert!(rt; out_measure(o, 3) == (4, 2));
+    assert!(rt; out_measure(o, 4) == (4, 2));
+}
+
 #[test]
 fn measures_outputs(rt: HostRuntime) -> Result<(), Fail> {
-    let o = choice(
-        rt.alloc(),
-        &variable(rt.alloc(), &mut Bank::new(rt.alloc()), 1)?,
-    )?;
-    assert_eq!(rt; out_measure(&o, 0), (1, 1));
-    assert_eq!(rt; out_measure(&o, 1), (2, 2));
-    assert_eq!(rt; out_measure(&o, 2), (3, 2));
-    assert_eq!(rt; out_measure(&o, 3), (4, 2));
-    assert_eq!(rt; out_measure(&o, 4), (4, 2));
+    let o = choice_of_variable(rt.alloc(), &mut Bank::new(rt.alloc()))?;
+    measures_output(&rt, &o);
     Ok(())
 }
 

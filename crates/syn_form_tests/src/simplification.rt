@@ -250,7 +250,7 @@ fn measured_chain(alloc: Global) -> Result<(u64, u64, bool), NoMemory> {
 
 #[test]
 fn leaves_deep_and_large_formulas(rt: HostRuntime) -> Result<(), Fail> {
-    assert_eq!(rt; measured_tower(rt.alloc())?, (4799, 2400, true));
-    assert_eq!(rt; measured_chain(rt.alloc())?, (65_537, 2117, true));
+    assert!(rt; measured_tower(rt.alloc())? == (4799, 2400, true));
+    assert!(rt; measured_chain(rt.alloc())? == (65_537, 2117, true));
     Ok(())
 }

@@ -2,7 +2,7 @@
 ghost use Rattle.std.specs.Prelude.{IfOk};
 ghost use Rattle.syn_model.specs.Specifications.{IsSpec};
 
-use crate::theories::{BASICS, begun, declares, failed};
+use crate::theories::{failed, numbers};
 use sqlite_items::Items;
 use std::alloc::Global;
 use std::process::Abort;
@@ -236,43 +236,61 @@ fn takes(alloc: Global, theory: &Theory, spec: &mut Spec, line: &str) -> Result<
     }
 }
 
-/// Extends a specification with these inputs by the lines of a table in order. Each answer is the one
-/// behind the arrow.
-fn extends<R: Abort>(
-    rt: &R,
+/// Extends a specification by the lines of a table in order. Each answer is the one behind the arrow.
+fn extend_all(
+    rt: &impl Abort,
     alloc: Global,
     theory: &Theory,
-    params: &str,
+    spec: &mut Spec,
     table: &str,
-) -> Result<(), Fail> {
-    let mut spec = start(alloc, theory, params)?;
+) -> Result<(), Fail>
+    requires { IsSpec (theory.now).decls spec.old }
+{
     for line in table.lines() {
         let (words, want) = cut(line, " => ");
-        let got = takes(alloc, theory, &mut spec, words)?;
+        let got = takes(alloc, theory, spec, words)?;
         assert!(rt; got == (want == "yes"), "at {line}");
     }
     assert!(rt; spec.is_whole());
     Ok(())
 }
 
-#[test]
-fn begins_with_heads(rt: HostRuntime) -> Result<(), Fail> {
-    let mut theory = begun(rt.alloc())?;
-    declares(&rt, rt.alloc(), &mut theory, BASICS)?;
+/// The same for a specification with these inputs.
+fn extends(
+    rt: &impl Abort,
+    alloc: Global,
+    theory: &Theory,
+    params: &str,
+    table: &str,
+) -> Result<(), Fail> {
+    let mut spec = start(alloc, theory, params)?;
+    extend_all(rt, alloc, theory, &mut spec, table)
+}
+
+fn begin_with_heads(rt: &impl Abort, alloc: Global, theory: &Theory) -> Result<(), Fail> {
     for line in HEADS.lines() {
         let (words, want) = cut(line, " => ");
-        let got = begins(rt.alloc(), &theory, words)?;
+        let got = begins(alloc, theory, words)?;
         assert!(rt; got == (want == "yes"), "at {line}");
     }
     Ok(())
 }
 
 #[test]
+fn begins_with_heads(rt: HostRuntime) -> Result<(), Fail> {
+    let theory = numbers(&rt, rt.alloc())?;
+    begin_with_heads(&rt, rt.alloc(), &theory)
+}
+
+fn extend_by_parts(rt: &impl Abort, alloc: Global, theory: &Theory) -> Result<(), Fail> {
+    extends(rt, alloc, theory, "a", IN_ORDER)?;
+    extends(rt, alloc, theory, "a", CONDITIONS)?;
+    extends(rt, alloc, theory, "a", NAMES)?;
+    extends(rt, alloc, theory, "a;b", TWO)
+}
+
+#[test]
 fn extends_by_parts(rt: HostRuntime) -> Result<(), Fail> {
-    let mut theory = begun(rt.alloc())?;
-    declares(&rt, rt.alloc(), &mut theory, BASICS)?;
-    extends(&rt, rt.alloc(), &theory, "a", IN_ORDER)?;
-    extends(&rt, rt.alloc(), &theory, "a", CONDITIONS)?;
-    extends(&rt, rt.alloc(), &theory, "a", NAMES)?;
-    extends(&rt, rt.alloc(), &theory, "a;b", TWO)
+    let theory = numbers(&rt, rt.alloc())?;
+    extend_by_parts(&rt, rt.alloc(), &theory)
 }

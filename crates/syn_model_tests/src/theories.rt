@@ -154,14 +154,18 @@ fn list(alloc: Global, name: &str, nil: &str) -> Result<Decl, NoMemory> {
 
 fn fun_clause(alloc: Global, theory: &Theory, args: &str, body: &str) -> Result<Decl, Fail> {
     let args = terms(alloc, theory, args)?;
-    let body = output(alloc, theory, body)?;
-    Ok(Decl::FunClause { args, body })
+    match output(alloc, theory, body) {
+        Ok(body) => Ok(Decl::FunClause { args, body }),
+        Err(fail) => Err(fail),
+    }
 }
 
 fn rel_clause(alloc: Global, theory: &Theory, args: &str, body: &str) -> Result<Decl, Fail> {
     let args = terms(alloc, theory, args)?;
-    let body = form(alloc, theory, body)?;
-    Ok(Decl::RelClause { args, body })
+    match form(alloc, theory, body) {
+        Ok(body) => Ok(Decl::RelClause { args, body }),
+        Err(fail) => Err(fail),
+    }
 }
 
 fn order(
@@ -171,9 +175,9 @@ fn order(
     count: u32,
     measure: &str,
 ) -> Result<Decl, Fail> {
-    let measure = term(alloc, theory, measure)?;
-    let args = nats(alloc, count)?;
     let name = Text::from_str(alloc, name)?;
+    let args = nats(alloc, count)?;
+    let measure = term(alloc, theory, measure)?;
     Ok(Decl::Order {
         name,
         args,
@@ -182,8 +186,8 @@ fn order(
 }
 
 fn axiom(alloc: Global, theory: &Theory, name: &str, text: &str) -> Result<Decl, Fail> {
-    let form = closed(alloc, theory, text)?;
     let name = Text::from_str(alloc, name)?;
+    let form = closed(alloc, theory, text)?;
     Ok(Decl::Axiom { name, form })
 }
 
@@ -247,7 +251,7 @@ fn is_taken(alloc: Global, theory: &mut Theory, line: &str) -> Result<bool, Fail
     }
 }
 
-pub(crate) fn begun(alloc: Global) -> Result<Theory, Fail> {
+fn begun(alloc: Global) -> Result<Theory, Fail> {
     match Theory::new(alloc, "basics") {
         Ok(theory) => Ok(theory),
         Err(_) => Err(Fail::new("no theory")),
@@ -255,12 +259,7 @@ pub(crate) fn begun(alloc: Global) -> Result<Theory, Fail> {
 }
 
 /// Declares the lines of a table in order. Each answer is the one behind the arrow.
-pub(crate) fn declares<R: Abort>(
-    rt: &R,
-    alloc: Global,
-    theory: &mut Theory,
-    table: &str,
-) -> Result<(), Fail> {
+fn declares<R: Abort>(rt: &R, alloc: Global, theory: &mut Theory, table: &str) -> Result<(), Fail> {
     for line in table.lines() {
         let (decl, want) = cut(line, " => ");
         let got = is_taken(alloc, theory, decl)?;
@@ -270,7 +269,7 @@ pub(crate) fn declares<R: Abort>(
 }
 
 /// Numbers with predecessor, doubling and their order.
-pub(crate) const BASICS: &str = "\
+const BASICS: &str = "\
 fun p 1 => yes
 clause 0: 0 => yes
 clause s(x): x => yes
@@ -325,28 +324,50 @@ clause x; s(y): g(x, s(y)) => no
 clause x; s(y): g(s(x), y) => yes
 clause x; y: x => no";
 
+fn declare_numbers(rt: &impl Abort, alloc: Global, theory: &mut Theory) -> Result<(), Fail> {
+    declares(rt, alloc, theory, BASICS)?;
+    assert!(rt; theory.is_whole());
+    declares(rt, alloc, theory, OTHERS)
+}
+
 #[test]
 fn declares_numbers(rt: HostRuntime) -> Result<(), Fail> {
     let mut theory = begun(rt.alloc())?;
-    declares(&rt, rt.alloc(), &mut theory, BASICS)?;
-    assert!(rt; theory.is_whole());
-    declares(&rt, rt.alloc(), &mut theory, OTHERS)
+    declare_numbers(&rt, rt.alloc(), &mut theory)
+}
+
+/// The theory of numbers.
+pub(crate) fn numbers(rt: &impl Abort, alloc: Global) -> Result<Theory, Fail> {
+    let mut theory = begun(alloc)?;
+    declares(rt, alloc, &mut theory, BASICS)?;
+    Ok(theory)
+}
+
+/// A copy of it, once it is gone.
+fn numbers_again(rt: &impl Abort, alloc: Global) -> Result<Theory, Fail> {
+    let theory = numbers(rt, alloc)?;
+    Ok(theory.copy()?)
+}
+
+fn go_on(rt: &impl Abort, alloc: Global, theory: &mut Theory) -> Result<(), Fail> {
+    assert!(rt; theory.name() == "basics" && theory.is_whole());
+    declares(rt, alloc, theory, OTHERS)
 }
 
 #[test]
 fn goes_on_in_a_copy(rt: HostRuntime) -> Result<(), Fail> {
-    let mut theory = begun(rt.alloc())?;
-    declares(&rt, rt.alloc(), &mut theory, BASICS)?;
-    let mut copy = theory.copy()?;
-    drop(theory);
-    assert!(rt; copy.name() == "basics" && copy.is_whole());
-    declares(&rt, rt.alloc(), &mut copy, OTHERS)
+    let mut copy = numbers_again(&rt, rt.alloc())?;
+    go_on(&rt, rt.alloc(), &mut copy)
+}
+
+fn take_clauses(rt: &impl Abort, alloc: Global, theory: &mut Theory) -> Result<(), Fail> {
+    declares(rt, alloc, theory, CLAUSES)?;
+    assert!(rt; theory.is_whole());
+    Ok(())
 }
 
 #[test]
 fn takes_clauses_in_order(rt: HostRuntime) -> Result<(), Fail> {
     let mut theory = begun(rt.alloc())?;
-    declares(&rt, rt.alloc(), &mut theory, CLAUSES)?;
-    assert!(rt; theory.is_whole());
-    Ok(())
+    take_clauses(&rt, rt.alloc(), &mut theory)
 }

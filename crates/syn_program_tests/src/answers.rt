@@ -26,12 +26,19 @@ mono trans: le up le 2
 ";
 
 /// The lines of a case, which has ` // ` between them, each ended by a line feed.
-pub(crate) fn put_lines(out: &mut String, case: &str) -> Result<(), Fail> {
+fn put_lines(out: &mut String, case: &str) -> Result<(), Fail> {
     for line in case.split(" // ") {
         out.push_str(line)?;
         out.push('\n')?;
     }
     Ok(())
+}
+
+/// The text of a case, which has ` // ` between its lines.
+pub(crate) fn case_text(alloc: Global, case: &str) -> Result<String, Fail> {
+    let mut text = String::new(alloc);
+    put_lines(&mut text, case)?;
+    Ok(text)
 }
 
 /// The number of the bad line that a case wants, 0 where the text is to be read.

@@ -1,9 +1,10 @@
 // Texts of programs: the line that is refused, the text that is printed, and bodies at the limit.
-use crate::answers::{BASE, bad_program_line, printed_program, put_lines, theory_of, wanted};
+use crate::answers::{BASE, bad_program_line, case_text, printed_program, theory_of, wanted};
 use std::alloc::Global;
 use std::process::Abort;
 use std::test::Fail;
 use syn_cases::cut;
+use syn_model::Theory;
 
 /// Texts, with the line that is refused.
 const TEXTS: &str = "\
@@ -75,39 +76,65 @@ program f(a: nat): nat // a a => 2
 program f(a: nat): nat // a $ => 2
 program $f(a: nat): nat // a => 1";
 
-#[test]
-fn reads_programs(rt: HostRuntime) -> Result<(), Fail> {
-    let alloc = rt.alloc();
-    let theory = theory_of(alloc, BASE)?;
+/// The line of the case that is refused, 0 where it is read.
+fn bad_line(alloc: Global, theory: &Theory, case: &str) -> Result<u64, Fail> {
+    let text = case_text(alloc, case)?;
+    bad_program_line(alloc, theory, text.as_bytes())
+}
+
+fn read_programs(rt: &impl Abort, alloc: Global, theory: &Theory) -> Result<(), Fail> {
     for line in TEXTS.split('\n') {
         let (case, want) = cut(line, " => ");
-        let mut text = String::new(alloc);
-        put_lines(&mut text, case)?;
-        let got = bad_program_line(alloc, &theory, text.as_bytes())?;
+        let got = bad_line(alloc, theory, case)?;
         assert!(rt; got == wanted(want), "at {case}");
     }
     Ok(())
 }
 
-/// Texts whose ends are wrong.
 #[test]
-fn refuses_open_ends(rt: HostRuntime) -> Result<(), Fail> {
-    let alloc = rt.alloc();
-    let theory = theory_of(alloc, BASE)?;
-    for (text, want) in [
-        ("", 1),
-        ("\n", 2),
-        ("program f(a: nat): nat", 1),
-        ("program f(a: nat): nat\n", 2),
-        ("program f(a: nat): nat\n\n# one\n", 4),
-        ("program f(a: nat): nat\n  a", 2),
-        ("program f(a: nat): nat\n  a\n ", 3),
-        ("program f(a: nat): nat\n  a\n\n\n", 0),
-    ] {
-        let got = bad_program_line(alloc, &theory, text.as_bytes())?;
-        assert!(rt; got == want, "at {text}");
+fn reads_programs(rt: HostRuntime) -> Result<(), Fail> {
+    let theory = theory_of(rt.alloc(), BASE)?;
+    read_programs(&rt, rt.alloc(), &theory)
+}
+
+/// Texts whose ends are wrong, each `/` a line feed, with the line that is refused.
+const ENDS: &str = "\
+/ => 2
+ => 1
+program f(a: nat): nat => 1
+program f(a: nat): nat/ => 2
+program f(a: nat): nat//# one/ => 4
+program f(a: nat): nat/  a => 2
+program f(a: nat): nat/  a/  => 3
+program f(a: nat): nat/  a/// => yes";
+
+/// The text with line feeds.
+fn fed(alloc: Global, case: &str) -> Result<String, Fail> {
+    let mut text = String::new(alloc);
+    for c in case.chars() {
+        text.push(if c == '/' { '\n' } else { c })?;
+    }
+    Ok(text)
+}
+
+fn bad_end(alloc: Global, theory: &Theory, case: &str) -> Result<u64, Fail> {
+    let text = fed(alloc, case)?;
+    bad_program_line(alloc, theory, text.as_bytes())
+}
+
+fn refuse_open_ends(rt: &impl Abort, alloc: Global, theory: &Theory) -> Result<(), Fail> {
+    for line in ENDS.split('\n') {
+        let (case, want) = cut(line, " => ");
+        let got = bad_end(alloc, theory, case)?;
+        assert!(rt; got == wanted(want), "at {case}");
     }
     Ok(())
+}
+
+#[test]
+fn refuses_open_ends(rt: HostRuntime) -> Result<(), Fail> {
+    let theory = theory_of(rt.alloc(), BASE)?;
+    refuse_open_ends(&rt, rt.alloc(), &theory)
 }
 
 /// Texts, and what is printed for their programs.
@@ -122,26 +149,35 @@ program f(a: nat): nat // s(s(1000)) => program f(a: nat): nat //   s(s(1000))
 program m(a: nat, b: nat): nat // if (le(a,b)) then b else a => program m(a: nat, b: nat): nat //   if le(a, b) then b else a
 program f(a: nat): nat // if a=0<->a=1 then 0 else a => program f(a: nat): nat //   if (a = 0 -> a = 1) and (a = 1 -> a = 0) then 0 else a";
 
-#[test]
-fn prints_programs(rt: HostRuntime) -> Result<(), Fail> {
-    let alloc = rt.alloc();
-    let theory = theory_of(alloc, BASE)?;
+/// Whether the program of the text prints as the other text.
+fn prints(alloc: Global, theory: &Theory, text: &str, want: &str) -> Result<bool, Fail> {
+    let printed = printed_program(alloc, theory, text)?;
+    Ok(printed.as_str() == want)
+}
+
+/// Whether the case prints as the wanted one, which prints as itself.
+fn print_as(alloc: Global, theory: &Theory, case: &str, want: &str) -> Result<bool, Fail> {
+    let text = case_text(alloc, case)?;
+    let wanted = case_text(alloc, want)?;
+    Ok(
+        prints(alloc, theory, text.as_str(), wanted.as_str())?
+            && prints(alloc, theory, wanted.as_str(), wanted.as_str())?,
+    )
+}
+
+fn print_programs(rt: &impl Abort, alloc: Global, theory: &Theory) -> Result<(), Fail> {
     for line in PRINTED.split('\n') {
         let (case, want) = cut(line, " => ");
-        let mut text = String::new(alloc);
-        put_lines(&mut text, case)?;
-        let mut printed = String::new(alloc);
-        put_lines(&mut printed, want)?;
-        assert!(rt;
-            printed_program(alloc, &theory, text.as_str())?.as_str() == printed.as_str(),
-            "at {case}"
-        );
-        assert!(rt;
-            printed_program(alloc, &theory, printed.as_str())?.as_str() == printed.as_str(),
-            "again {case}"
-        );
+        let right = print_as(alloc, theory, case, want)?;
+        assert!(rt; right, "at {case}");
     }
     Ok(())
+}
+
+#[test]
+fn prints_programs(rt: HostRuntime) -> Result<(), Fail> {
+    let theory = theory_of(rt.alloc(), BASE)?;
+    print_programs(&rt, rt.alloc(), &theory)
 }
 
 /// 130 choices of 2,005 nodes each, and one that ends in the text.
@@ -156,18 +192,36 @@ fn put_choices(out: &mut String, end: &str) -> Result<(), Fail> {
     Ok(())
 }
 
+fn choices(alloc: Global, end: &str) -> Result<String, Fail> {
+    let mut text = String::new(alloc);
+    put_choices(&mut text, end)?;
+    Ok(text)
+}
+
+/// The text prints as itself, and the other one is refused at its second line.
+fn ends_between(
+    rt: &impl Abort,
+    alloc: Global,
+    theory: &Theory,
+    text: &str,
+    more: &str,
+) -> Result<(), Fail> {
+    assert!(rt; prints(alloc, theory, text, text)?);
+    assert!(rt; bad_program_line(alloc, theory, more.as_bytes())? == 2);
+    Ok(())
+}
+
+fn limit_nodes(rt: &impl Abort, alloc: Global, theory: &Theory) -> Result<(), Fail> {
+    let text = choices(alloc, "500")?;
+    let more = choices(alloc, "501")?;
+    ends_between(rt, alloc, theory, text.as_str(), more.as_str())
+}
+
 /// A body of 262,144 nodes is read and printed, and one with a node more is refused.
 #[test]
 fn reads_bodies_up_to_the_limit_on_nodes(rt: HostRuntime) -> Result<(), Fail> {
-    let alloc = rt.alloc();
-    let theory = theory_of(alloc, BASE)?;
-    let mut text = String::new(alloc);
-    put_choices(&mut text, "500")?;
-    assert!(rt; printed_program(alloc, &theory, text.as_str())?.as_str() == text.as_str());
-    let mut more = String::new(alloc);
-    put_choices(&mut more, "501")?;
-    assert_eq!(rt; bad_program_line(alloc, &theory, more.as_bytes())?, 2);
-    Ok(())
+    let theory = theory_of(rt.alloc(), BASE)?;
+    limit_nodes(&rt, rt.alloc(), &theory)
 }
 
 /// So many times `s` round 1,000.
@@ -184,16 +238,21 @@ fn put_successors(out: &mut String, count: usize) -> Result<(), Fail> {
     Ok(())
 }
 
+fn successors(alloc: Global, count: usize) -> Result<String, Fail> {
+    let mut text = String::new(alloc);
+    put_successors(&mut text, count)?;
+    Ok(text)
+}
+
+fn limit_depth(rt: &impl Abort, alloc: Global, theory: &Theory) -> Result<(), Fail> {
+    let text = successors(alloc, 263)?;
+    let more = successors(alloc, 264)?;
+    ends_between(rt, alloc, theory, text.as_str(), more.as_str())
+}
+
 /// A body of depth 1,264 is read and printed, and one of 1,265 is refused.
 #[test]
 fn reads_bodies_up_to_the_limit_on_depth(rt: HostRuntime) -> Result<(), Fail> {
-    let alloc = rt.alloc();
-    let theory = theory_of(alloc, BASE)?;
-    let mut text = String::new(alloc);
-    put_successors(&mut text, 263)?;
-    assert!(rt; printed_program(alloc, &theory, text.as_str())?.as_str() == text.as_str());
-    let mut more = String::new(alloc);
-    put_successors(&mut more, 264)?;
-    assert_eq!(rt; bad_program_line(alloc, &theory, more.as_bytes())?, 2);
-    Ok(())
+    let theory = theory_of(rt.alloc(), BASE)?;
+    limit_depth(&rt, rt.alloc(), &theory)
 }

@@ -36,32 +36,55 @@ goal le(?1, ?2) / goal le(?1, ?2) => yes
 goal le(?1, ?2) | ?1 / goal le(?1, ?2) | ?2 => no
 goal le(?1, ?2) | ?1 / goal le(?2, ?1) | ?1 => no";
 
-/// The text of the canonical row of the row of a text.
-fn canonical_text(alloc: Global, syms: &Symbols, text: &str) -> Result<String, Fail> {
-    let scope = scope_of(syms);
-    let mut bank = Bank::new(alloc);
-    let row = read_row(alloc, &mut bank, &scope, text)?;
-    if !is_plain_row(alloc, syms, &row)? {
+/// The text of the canonical row.
+fn canonical_text(alloc: Global, bank: &mut Bank, syms: &Symbols, row: &Row) -> Result<String, Fail>
+    requires { All (Belongs bank.old) (row_terms row.now) }
+{
+    if !is_plain_row(alloc, syms, row)? {
         return Err(Fail::new("not plain"));
     }
-    match canonical(alloc, &mut bank, syms, &row)? {
+    match canonical(alloc, bank, syms, row)? {
         None => Err(Fail::new("past the limit")),
-        Some(row) => print_row(alloc, &scope, &row),
+        Some(row) => print_row(alloc, &scope_of(syms), &row),
     }
+}
+
+/// The text of the canonical row of the row of a text.
+fn canonical_of(
+    alloc: Global,
+    bank: &mut Bank,
+    syms: &Symbols,
+    text: &str,
+) -> Result<String, Fail> {
+    let row = read_row(alloc, bank, &scope_of(syms), text)?;
+    canonical_text(alloc, bank, syms, &row)
+}
+
+fn becomes(
+    rt: &impl Abort,
+    alloc: Global,
+    syms: &Symbols,
+    text: &str,
+    want: &str,
+) -> Result<(), Fail> {
+    let got = canonical_of(alloc, &mut Bank::new(alloc), syms, text)?;
+    assert_eq!(rt; got.as_str(), want, "at {text}");
+    Ok(())
+}
+
+fn make_canonical_rows(rt: &impl Abort, alloc: Global, syms: &Symbols) -> Result<(), Fail> {
+    for line in CANONICAL.lines() {
+        let (text, want) = cut(line, " => ");
+        becomes(rt, alloc, syms, text, want)?;
+        becomes(rt, alloc, syms, want, want)?;
+    }
+    Ok(())
 }
 
 #[test]
 fn makes_canonical_rows(rt: HostRuntime) -> Result<(), Fail> {
-    let alloc = rt.alloc();
-    let syms = make_table(alloc)?;
-    for line in CANONICAL.lines() {
-        let (text, want) = cut(line, " => ");
-        let got = canonical_text(alloc, &syms, text)?;
-        assert_eq!(rt; got.as_str(), want, "at {text}");
-        let again = canonical_text(alloc, &syms, want)?;
-        assert_eq!(rt; again.as_str(), want, "again at {text}");
-    }
-    Ok(())
+    let syms = make_table(rt.alloc())?;
+    make_canonical_rows(&rt, rt.alloc(), &syms)
 }
 
 /// Whether the two rows are one.
@@ -72,24 +95,44 @@ fn is_one(bank: &Bank, row: &Row, other: &Row) -> bool
     row.same(other)
 }
 
+/// Whether the row is that of the text.
+fn is_row_of(
+    alloc: Global,
+    bank: &mut Bank,
+    syms: &Symbols,
+    row: &Row,
+    text: &str,
+) -> Result<bool, Fail>
+    requires { All (Belongs bank.old) (row_terms row.now) }
+{
+    let other = read_row(alloc, bank, &scope_of(syms), text)?;
+    Ok(is_one(bank, row, &other))
+}
+
 /// Whether the rows of the two texts are one.
-fn are_one(alloc: Global, syms: &Symbols, first: &str, second: &str) -> Result<bool, Fail> {
-    let scope = scope_of(syms);
-    let mut bank = Bank::new(alloc);
-    let row = read_row(alloc, &mut bank, &scope, first)?;
-    let other = read_row(alloc, &mut bank, &scope, second)?;
-    Ok(is_one(&bank, &row, &other))
+fn are_one(
+    alloc: Global,
+    bank: &mut Bank,
+    syms: &Symbols,
+    first: &str,
+    second: &str,
+) -> Result<bool, Fail> {
+    let row = read_row(alloc, bank, &scope_of(syms), first)?;
+    is_row_of(alloc, bank, syms, &row, second)
+}
+
+fn compare_rows(rt: &impl Abort, alloc: Global, syms: &Symbols) -> Result<(), Fail> {
+    for line in SAME.lines() {
+        let (texts, want) = cut(line, " => ");
+        let (first, second) = cut(texts, " / ");
+        let got = are_one(alloc, &mut Bank::new(alloc), syms, first, second)?;
+        assert_eq!(rt; got, want == "yes", "at {line}");
+    }
+    Ok(())
 }
 
 #[test]
 fn compares_rows(rt: HostRuntime) -> Result<(), Fail> {
-    let alloc = rt.alloc();
-    let syms = make_table(alloc)?;
-    for line in SAME.lines() {
-        let (texts, want) = cut(line, " => ");
-        let (first, second) = cut(texts, " / ");
-        let got = are_one(alloc, &syms, first, second)?;
-        assert_eq!(rt; got, want == "yes", "at {line}");
-    }
-    Ok(())
+    let syms = make_table(rt.alloc())?;
+    compare_rows(&rt, rt.alloc(), &syms)
 }

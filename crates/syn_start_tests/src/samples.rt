@@ -4,7 +4,6 @@ ghost use Rattle.syn_model.specs.Specifications.{IsSpec};
 
 use std::alloc::Global;
 use std::test::Fail;
-use syn_files::{read_spec, read_theory};
 use syn_model::{Spec, Theory};
 use syn_start::Start;
 use syn_term::Bank;
@@ -58,23 +57,14 @@ fn spec_text(name: &str) -> &'static str {
 }
 
 pub fn theory_of(alloc: Global) -> Result<Theory, Fail> {
-    match read_theory(alloc, &mut Bank::new(alloc), THEORY.as_bytes()) {
-        Ok(theory) => Ok(theory),
-        Err(_) => Err(Fail::new("no theory")),
-    }
+    syn_start_cases::theory_of(alloc, THEORY)
 }
 
-/// What a derivation over the two begins with.
-fn start_over(alloc: Global, bank: &mut Bank, theory: &Theory, spec: &Spec) -> Result<Start, Fail>
-    requires { IsSpec (theory.now).decls spec.now }
+/// The specification of this name, over the theory.
+pub fn spec_over(alloc: Global, theory: &Theory, name: &str) -> Result<Spec, Fail>
+    ensures { IfOk result (IsSpec (theory.now).decls) }
 {
-    if !theory.is_whole() {
-        return Err(Fail::new("a clause is missing"));
-    }
-    if !spec.is_whole() {
-        return Err(Fail::new("no output condition"));
-    }
-    Ok(Start::new(alloc, bank, theory, spec)?)
+    syn_start_cases::spec_over(alloc, theory, spec_text(name))
 }
 
 /// What a derivation over the theory and the specification of this name begins with.
@@ -84,17 +74,5 @@ pub fn start_of(
     theory: &Theory,
     name: &str,
 ) -> Result<Start, Fail> {
-    let spec = spec_over(alloc, theory, name)?;
-    start_over(alloc, bank, theory, &spec)
-}
-
-/// The specification of this name, over the theory.
-pub fn spec_over(alloc: Global, theory: &Theory, name: &str) -> Result<Spec, Fail>
-    ensures { IfOk result (IsSpec (theory.now).decls) }
-{
-    let text = spec_text(name);
-    match read_spec(alloc, &mut Bank::new(alloc), theory, text.as_bytes()) {
-        Ok(spec) => Ok(spec),
-        Err(_) => Err(Fail::new("no specification")),
-    }
+    syn_start_cases::start_of(alloc, bank, theory, spec_text(name))
 }

@@ -1,5 +1,6 @@
 // Lists that are built, looked at and let go of.
 use std::alloc::Global;
+use std::process::Abort;
 use std::test::Fail;
 use syn_value::{Value, Values};
 
@@ -12,13 +13,27 @@ fn numbers(alloc: Global, end: u64) -> Result<Values, Fail> {
     Ok(values)
 }
 
+/// A list of so many numbers.
+fn list(alloc: Global, end: u64) -> Result<Value, Fail> {
+    Ok(Value::list(numbers(alloc, end)?))
+}
+
+/// The same list, once the first of two owners is gone.
+fn kept(alloc: Global, end: u64) -> Result<Value, Fail> {
+    let list = list(alloc, end)?;
+    Ok(list.again()?)
+}
+
+/// Whether the value is the list of so many numbers.
+fn is_list_of(alloc: Global, value: &Value, end: u64) -> Result<bool, Fail> {
+    let list = list(alloc, end)?;
+    Ok(value.same(&list))
+}
+
 #[test]
 fn lets_go_of_a_million(rt: HostRuntime) -> Result<(), Fail> {
-    let alloc = rt.alloc();
-    let list = Value::list(numbers(alloc, 1_000_000)?);
-    let other = list.again()?;
-    drop(list);
-    assert!(rt; other.same(&Value::list(numbers(alloc, 1_000_000)?)));
+    let other = kept(rt.alloc(), 1_000_000)?;
+    assert!(rt; is_list_of(rt.alloc(), &other, 1_000_000)?);
     Ok(())
 }
 
@@ -33,20 +48,38 @@ fn first_two(values: &Values) -> Result<Option<(u64, u64)>, Fail> {
     Ok(first.as_number().zip(second.as_number()))
 }
 
-#[test]
-fn shows_its_parts(rt: HostRuntime) -> Result<(), Fail> {
-    let alloc = rt.alloc();
-    let two = numbers(alloc, 2)?;
-    assert_eq!(rt; first_two(&two)?, Some((1, 0)));
-    assert_eq!(rt; first_two(&numbers(alloc, 1)?)?, None);
-    assert!(rt; Values::empty().is_empty());
-    let tuple = Value::tuple(two.again()?);
+/// The first two of so many numbers.
+fn first_two_of(alloc: Global, end: u64) -> Result<Option<(u64, u64)>, Fail> {
+    let values = numbers(alloc, end)?;
+    first_two(&values)
+}
+
+/// A tuple of so many numbers.
+fn tuple(alloc: Global, end: u64) -> Result<Value, Fail> {
+    Ok(Value::tuple(numbers(alloc, end)?))
+}
+
+/// The first two parts of the tuple.
+fn first_parts(tuple: &Value) -> Result<Option<(u64, u64)>, Fail> {
+    match tuple.as_tuple()? {
+        None => Ok(None),
+        Some(parts) => first_two(&parts),
+    }
+}
+
+fn show_parts(rt: &impl Abort, alloc: Global, tuple: &Value) -> Result<(), Fail> {
     assert!(rt; tuple.as_list()?.is_none());
     assert!(rt; tuple.as_number().is_none());
-    let Some(parts) = tuple.as_tuple()? else {
-        return Err(Fail::new("no tuple"));
-    };
-    assert_eq!(rt; first_two(&parts)?, Some((1, 0)));
-    assert!(rt; !tuple.same(&Value::list(two)));
+    assert!(rt; first_parts(tuple)? == Some((1, 0)));
+    assert!(rt; !is_list_of(alloc, tuple, 2)?);
     Ok(())
+}
+
+#[test]
+fn shows_its_parts(rt: HostRuntime) -> Result<(), Fail> {
+    assert!(rt; first_two_of(rt.alloc(), 2)? == Some((1, 0)));
+    assert!(rt; first_two_of(rt.alloc(), 1)? == None);
+    assert!(rt; Values::empty().is_empty());
+    let tuple = tuple(rt.alloc(), 2)?;
+    show_parts(&rt, rt.alloc(), &tuple)
 }

@@ -1,5 +1,5 @@
 use Rattle.syn_model.specs.Specifications.{IsSpec}
-use Rattle.syn_model_tests.proofs.specifications.extends.Given as goal
+use Rattle.syn_model_tests.proofs.specifications.extend_all.Given as goal
 
 abbrev pub invariant-loop-line : goal.invariant-loop-line
 invariant-loop-line g l = IsSpec l.theory.decls l.spec

@@ -1,5 +1,0 @@
-use Rattle.syn_row_cases.proofs.Owning.{still}
-use Rattle.syn_row_tests.proofs.canonical_rows.are_one.Goals as goal
-
-pub is_one-requires-clause-row : goal.is_one-requires-clause-row
-is_one-requires-clause-row c = still _ _ _ c.in_ok-other.ensures.extends c.in_ok-row.ensures.belongs
