@@ -28,6 +28,33 @@ for name, size in [("whole", 4_194_304), ("half", 2_097_152), ("quarter", 1_048_
     inputs[f"relations-{name}"] = theory(size, lambda n: f"rel r{n:06}(nat)\nclause r{n:06}(x) <-> x = 0", [])
 inputs["line"] = ["theory t", "axiom a: " + "(" * 1_000_000 + "true" + ")" * 1_000_000]
 
+
+
+def chain(length):
+    """`k1(x)` is `s(x)`, and each further function `s` of the one before; the derivation unfolds one after another."""
+
+    def nested(outer, j):
+        return "s(" * outer + (f"k{j}(a)" if j else "a") + ")" * outer
+
+    lines = ["theory chain"]
+    for j in range(1, length + 1):
+        body = f"k{j - 1}(x)" if j > 1 else "x"
+        lines += [f"fun k{j}(nat): nat", f"clause k{j}(x) = s({body})"]
+    lines += ["--", "spec chain", "program c(a: nat): z: nat", f"ensures z = k{length}(a)", "--", "derivation 1"]
+    lines.append(f"1 goal: goal ?1 = {nested(0, length)} | ?1")
+    for i in range(length):
+        j, row = length - i, 2 * i + 1
+        body = f"k{j - 1}(?1)" if j > 1 else "?1"
+        lines.append(f"{row + 1} def k{j} 1: assertion k{j}(?1) = s({body})")
+        lines.append(f"{row + 2} equal {row + 1} - lr {row} 2{'.1' * i}: goal ?1 = {nested(i + 1, j - 1)} | ?1")
+    lines.append(f"{2 * length + 2} reflex {2 * length + 1} -: goal true | {nested(length, 0)}")
+    return lines
+
+
+for length in [3, 250, 500, 1000]:
+    for what in ["read", "print", "check"]:
+        inputs[f"chain-{length}-{what}"] = [what] + chain(length)
+
 for name, lines in inputs.items():
     with open(f"{folder}/{name}", "w") as file:
         file.write("\n".join(lines) + "\n")
