@@ -1,0 +1,3 @@
+pub mod NumberLaws
+pub mod FirstLaws
+pub mod StepRead
