@@ -1,3 +1,4 @@
 pub mod NumberLaws
 pub mod FirstLaws
 pub mod StepRead
+pub mod StepReads

@@ -162,7 +162,7 @@ used_of u = used_words u.used.row u.used.at u.way u.changed.row u.changed.at
 abbrev SaysReplacement : List Word → Got Replacement → Type 0
 SaysReplacement ws g = IsUsedText g.value.used.row g.value.used.at g.value.changed.row g.value.changed.at × (ws ≡ used_of g.value ++ g.left)
 
-used_append : (n : ℕ) (at : List ℕ) (way : Dir) (m : ℕ) (place : List ℕ) (rest : List Word) → used_words n at way m place ++ rest ≡ number_word n ∷ (position_words at ++ name_word (direction way) ∷ number_word m ∷ (position_words place ++ rest))
+pub used_append : (n : ℕ) (at : List ℕ) (way : Dir) (m : ℕ) (place : List ℕ) (rest : List Word) → used_words n at way m place ++ rest ≡ number_word n ∷ (position_words at ++ name_word (direction way) ∷ number_word m ∷ (position_words place ++ rest))
 used_append n at way m place rest = ap (λ (z : List Word). number_word n ∷ z) (append_assoc (position_words at) (name_word (direction way) ∷ number_word m ∷ position_words place) rest)
 
 changed_read : (ws : List Word) (p : Got RowPosition) (g : Got Replacement) → IsFew p.value.row × All IsFew p.value.at × (ws ≡ number_word p.value.row ∷ (position_words p.value.at ++ p.left)) → changed_first p.value p.left ≡ Some g → SaysReplacement ws g
@@ -228,7 +228,7 @@ reflex_read ws g e = option_and_then_some (λ (n : Got ℕ). option_map (λ p. g
     let b = position_read n.left m.0 m.1 in
     subst (SaysBehind (codes "reflex") ws) m.2 ((a.1, b.0), ap (λ (z : List Word). name_word (codes "reflex") ∷ z) (a.0 ∙ ap (λ (z : List Word). number_word n.value ∷ z) b.1)))
 
-resolve_append : (n : ℕ) (ps : List (List ℕ)) (m : ℕ) (qs : List (List ℕ)) (rest : List Word) → step_words (step.Resolve n ps m qs) ++ rest ≡ name_word (codes "resolve") ∷ number_word n ∷ (positions_words ps ++ number_word m ∷ (positions_words qs ++ rest))
+pub resolve_append : (n : ℕ) (ps : List (List ℕ)) (m : ℕ) (qs : List (List ℕ)) (rest : List Word) → step_words (step.Resolve n ps m qs) ++ rest ≡ name_word (codes "resolve") ∷ number_word n ∷ (positions_words ps ++ number_word m ∷ (positions_words qs ++ rest))
 resolve_append n ps m qs rest = ap (λ (z : List Word). name_word (codes "resolve") ∷ number_word n ∷ z) (append_assoc (positions_words ps) (number_word m ∷ positions_words qs) rest)
 
 resolve_read : (ws : List Word) (g : Got Step) → resolve_first ws ≡ Some g → SaysBehind (codes "resolve") ws g
