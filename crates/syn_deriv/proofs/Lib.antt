@@ -2,3 +2,4 @@ pub mod NumberLaws
 pub mod FirstLaws
 pub mod StepRead
 pub mod StepReads
+pub mod PositionsRead

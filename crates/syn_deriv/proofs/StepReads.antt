@@ -74,7 +74,7 @@ dotted_some : (k : ℕ) (ks : List ℕ) → 1 ≤ length (dotted k ks)
 dotted_some k [] = omega arith
 dotted_some k (j ∷ js) = omega arith
 
-position_some : (p : List ℕ) → 1 ≤ length (position_words p)
+pub position_some : (p : List ℕ) → 1 ≤ length (position_words p)
 position_some [] = omega arith
 position_some (k ∷ ks) = dotted_some k ks
 
