@@ -1,1 +1,2 @@
 pub mod PrintedSpelling
+pub mod PrintedSteps
