@@ -1,2 +1,4 @@
 pub mod PrintedSpelling
 pub mod PrintedSteps
+pub mod PrintedRows
+pub mod PrintedBack

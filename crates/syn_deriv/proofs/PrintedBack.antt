@@ -1,10 +1,11 @@
 -- What is printed for a derivation reads back to it, the places of its terms left out.
-use Rattle.std.proofs.Common.{◌≡◌, ℕ, ◌+◌, ◌<◌, ◌≤◌, ◌^◌, true, List, [], ◌∷◌, ◌++◌, None, Some, All, codes, length, map, refl, sym, ◌∙◌, ap, subst, arith, append_assoc, append-nil}
+use Rattle.std.proofs.Common.{◌≡◌, ℕ, ◌+◌, ◌<◌, ◌≤◌, ◌^◌, true, List, [], ◌∷◌, ◌++◌, None, Some, All, codes, length, refl, sym, ap, subst, arith, append_assoc, append-nil}
 use Rattle.std.specs.List.{flat_map}
+use Rattle.std.proofs.lemmas.Fmt.{decimal_digit}
 use Rattle.std.proofs.lemmas.List.{length-append, length-map, map-append}
 use Rattle.std.proofs.lemmas.List.Elements.{All-cons, All-head, All-nil, All-tail}
 use Rattle.syn_term.specs.DeclaredSorts.{IsTable}
-use Rattle.syn_term.specs.Tokens.{Spelled, Word}
+use Rattle.syn_term.specs.Tokens.{Spelled}
 use Rattle.syn_form.specs.Grammar.{name_word}
 use Rattle.syn_form.specs.Writing.{CanWriteTable}
 use Rattle.syn_lex.specs.Stepping.{Lead}
@@ -16,14 +17,17 @@ use Rattle.syn_start.specs.Starts.{StartTree}
 use Rattle.syn_deriv.specs.DerivationLines.{DerivationLine, DerivationWordsLead, IsDerivationText, IsFew, WritesLine, bare_line, bare_lines, header, number_word, one_row}
 use Rattle.syn_deriv.specs.PrintedDerivation.{ArePrintable, IsPrintable, printed_derivation, printed_line, printed_lines}
 use Rattle.syn_deriv.proofs.PrintedRows.{LineTold, line_told}
-use Rattle.syn_deriv.proofs.PrintedSpelling.{line_clean, name_says, number_says, says_alone, spaced_says}
+use Rattle.syn_deriv.proofs.PrintedSpelling.{Says, line_clean, name_says, number_says, says_alone, spaced_says}
 use Rattle.syn_deriv.proofs.PrintedSteps.{keyword}
 
 -- the first line
+one_says : Says (codes "1") (number_word 1 ∷ [])
+one_says = subst (λ (z : List ℕ). Says z (number_word 1 ∷ [])) (decimal_digit 1 (omega arith)) (number_says 1 (omega arith))
+
 title_spelled : Spelled (codes "derivation 1") (name_word (codes "derivation") ∷ number_word 1 ∷ [])
 title_spelled =
     says_alone (codes "derivation 1") (name_word (codes "derivation") ∷ number_word 1 ∷ [])
-    (spaced_says (codes "derivation") (codes "1") (name_word (codes "derivation") ∷ []) (number_word 1 ∷ []) (name_says (codes "derivation") (keyword refl)) (number_says 1 (omega arith)))
+    (spaced_says (codes "derivation") (codes "1") (name_word (codes "derivation") ∷ []) (number_word 1 ∷ []) (name_says (codes "derivation") (keyword refl)) one_says)
 
 module _ (x : StartTree) (good : IsTable x.spec.table) (written : CanWriteTable true x.spec.table) where
   title_led : DerivationLine x None (codes "derivation 1") (Some [])

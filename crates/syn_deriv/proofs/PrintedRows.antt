@@ -1,17 +1,16 @@
 -- A row is printed as words that write it, its places left out; and so is its line.
-use Rattle.std.proofs.Common.{◌≡◌, ℕ, ◌+◌, ◌<◌, ◌≤◌, ◌^◌, max, List, [], ◌∷◌, ◌++◌, Option, None, Some, IfSome, All, Contains, codes, decimal, map, refl, sym, ◌∙◌, ap, subst, arith, inr, true, append_assoc}
+use Rattle.std.proofs.Common.{◌≡◌, ℕ, ◌+◌, ◌≤◌, max, List, [], ◌∷◌, ◌++◌, Option, None, Some, IfSome, All, Contains, codes, decimal, map, refl, sym, ◌∙◌, ap, subst, arith, inr, true, append_assoc}
 use Rattle.std.specs.Option.{option_map, option_map_or}
 use Rattle.std.proofs.lemmas.List.Elements.{Contains-append_left, Contains-append_right}
 use Rattle.syn_term.specs.declared.sorts.Var.{Var}
 use Rattle.syn_term.specs.DeclaredSorts.{IsTable}
-use Rattle.syn_term.specs.Symbols.{IsTaken, SymbolTable}
+use Rattle.syn_term.specs.Symbols.{SymbolTable}
 use Rattle.syn_term.specs.Tokens.{Spelled, Word}
 use Rattle.syn_form.specs.declared.trees.Side.{Side}
 use Rattle.syn_form.specs.declared.trees.Side.TheVariants as side
 use Rattle.syn_form.specs.Grammar.{name_word, sign_word, spelling, words_of_form, words_of_out}
 use Rattle.syn_form.specs.Plain.{HasOneSortEach, IsFormed, IsFormedOut, given_sort}
 use Rattle.syn_form.specs.Printing.{printed_form, printed_out}
-use Rattle.syn_form.specs.Scopes.{Named}
 use Rattle.syn_form.specs.Texts.{IsFormOf, IsOutOf, expression_limit}
 use Rattle.syn_form.specs.Trees.{FormTree, OutTree, bare_form, bare_out, form_depth, form_nodes, form_vars, out_depth, out_nodes, out_vars}
 use Rattle.syn_form.specs.Writing.{CanWriteTable}
@@ -19,10 +18,9 @@ use Rattle.syn_form.proofs.BareFacts.{formed_bare, formed_out_bare}
 use Rattle.syn_form.proofs.BareVars.{form_vars_bare, given_bare, out_vars_bare}
 use Rattle.syn_form.proofs.Lists.{none_in_nil}
 use Rattle.syn_form.proofs.Owned.{All-left, All-right}
-use Rattle.syn_row.specs.Rows.{IsPlain, IsWithinRow, RowTree, bare_row, row_depth, row_nodes, row_vars}
+use Rattle.syn_row.specs.Rows.{RowTree, bare_row, row_depth, row_nodes, row_vars}
 use Rattle.syn_row.proofs.RowChanges.{row_vars-bare}
 use Rattle.syn_expr.specs.Readable.{CanReadForm, CanReadOut}
-use Rattle.syn_expr.specs.Told.{AreToldInRows}
 use Rattle.syn_expr.proofs.BareCounts.{form_depth_bare, form_nodes_bare, out_depth_bare, out_nodes_bare}
 use Rattle.syn_expr.proofs.Puts.{Stops, end_stops, space_stops, spelled_alone}
 use Rattle.syn_expr.proofs.ReadsBack.{form_back, form_puts, out_back, out_puts}

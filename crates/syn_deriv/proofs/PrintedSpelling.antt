@@ -1,5 +1,5 @@
 -- What a text is spelled as, put before what follows, word by word; and no line that is words has a line feed.
-use Rattle.std.proofs.Common.{◌≡◌, ℕ, ◌<◌, ◌^◌, Bool, true, cond, not, nat_eq, List, [], ◌∷◌, ◌++◌, All, Contains, decimal, length, get_or, take, drop, refl, sym, ◌∙◌, ap, subst, arith, inl, inr, append_assoc, append-nil, true≢false}
+use Rattle.std.proofs.Common.{◌≡◌, ℕ, ◌<◌, ◌^◌, Bool, true, cond, not, nat_eq, List, [], ◌∷◌, ◌++◌, Contains, decimal, length, get_or, take, drop, refl, sym, ◌∙◌, ap, subst, arith, inl, inr, append_assoc, append-nil, true≢false}
 use Rattle.std.specs.List.{list_all}
 use Rattle.std.proofs.lemmas.List.{drop_at, take_at, take-append-drop, take_all}
 use Rattle.std.proofs.lemmas.List.Elements.{All-append, All-contains, All-cons, All-from_get_or, All-from_recursion, All-nil}
