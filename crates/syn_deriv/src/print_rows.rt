@@ -1,7 +1,9 @@
 // The text of a derivation: its first line, and a line for each row.
-ghost use Rattle.std.specs.Prelude.{◌≡◌, ◌++◌, OnOk, IfOk, codes, decimal, string_bytes};
+ghost use Rattle.std.specs.Prelude.{◌≡◌, ◌++◌, OnOk, IfOk, codes, decimal, string_bytes, true};
 ghost use Rattle.std.specs.List.{flat_map};
+ghost use Rattle.syn_term.specs.DeclaredSorts.{IsTable};
 ghost use Rattle.syn_form.specs.Printing.{printed_form, printed_out};
+ghost use Rattle.syn_form.specs.Writing.{CanWriteTable};
 ghost use Rattle.syn_lex.specs.TextLines.{with_feed};
 ghost use Rattle.syn_deriv.specs.DerivationLines as lines;
 ghost use Rattle.syn_deriv.specs.DerivationLines.{IsDerivationText, bare_lines};
@@ -15,7 +17,7 @@ use syn_expr::{print_form, print_out, put};
 use syn_form::{Form, Out, Side};
 use syn_row::Row;
 use syn_start::{Derivation, Start, Step};
-use syn_term::{NoMemory, Symbols};
+use syn_term::{NoMemory, Sort, Symbols};
 
 /// The kind of a row as it is written.
 fn side_name(side: Side) -> &'static str
@@ -127,6 +129,15 @@ fn derivation_text(alloc: Global, start: &Start, d: &Derivation) -> Result<Strin
     Ok(out)
 }
 
+/// Nothing: what is told is that the table is well formed, and that each of its symbols has a text in rows.
+fn look(start: &Start)
+    ensures table { IsTable (start.now).spec.table }
+    ensures written { CanWriteTable true (start.now).spec.table }
+{
+    let syms = start.spec().symbols();
+    let _ = syms.sort_name(Sort::Nat);
+}
+
 /// The one text of the derivation. It reads back to an equal one where each line has a text: the step's names
 /// are names and its numbers have at most seven digits; the row is plain and within the limit of a row, its
 /// variables are numbered from 1 with at most seven digits, and its output has the sort of the program's
@@ -135,7 +146,6 @@ pub fn print_derivation(alloc: Global, start: &Start, d: &Derivation) -> Result<
     ensures text { IfOk result (λ text. string_bytes text ≡ printed_derivation start.now d.now) }
     ensures reads_back { IfOk result (λ text. ArePrintable start.now d.now → IsDerivationText start.now (string_bytes text) (bare_lines d.now)) }
 {
-    // So it is known that the specification is one over the theory, and that its table is one.
-    let _spec = start.spec();
+    look(start);
     derivation_text(alloc, start, d)
 }
