@@ -53,7 +53,7 @@ module _ (x : StartTree) (good : IsTable x.spec.table) (written : CanWriteTable 
         Some (bare_lines more),
         here,
         subst (λ (z : Lines). Lead (DerivationLine x) (Some (bare_lines more)) (printed_lines x.spec.table ((length before + 1) + 1) ls) (Some (bare_lines z))) (sym same)
-        (subst (λ (n : ℕ). Lead (DerivationLine x) (Some (bare_lines more)) (printed_lines x.spec.table (n + 1) ls) (Some (bare_lines (more ++ ls)))) count rest),
+            (subst (λ (n : ℕ). Lead (DerivationLine x) (Some (bare_lines more)) (printed_lines x.spec.table (n + 1) ls) (Some (bare_lines (more ++ ls)))) count rest),
       )
 
   -- and none has a line feed

@@ -1,15 +1,14 @@
 -- What the printer of derivations puts, piece by piece.
-use Rattle.std.proofs.Common.{◌≡◌, ℕ, ◌+◌, ◌<◌, ◌≤◌, List, [], ◌∷◌, ◌++◌, codes, length, map, take, get_or, refl, sym, ◌∙◌, ap, arith, append_assoc, append-nil}
+use Rattle.std.proofs.Common.{◌≡◌, ℕ, ◌+◌, ◌<◌, List, [], ◌∷◌, ◌++◌, length, take, get_or, sym, ◌∙◌, ap, arith, append_assoc, append-nil}
 use Rattle.std.specs.List.{flat_map}
 use Rattle.std.proofs.lemmas.Grind.{flat_map-append}
-use Rattle.std.proofs.lemmas.List.{length-take-le, take_all, take_more}
+use Rattle.std.proofs.lemmas.List.{length-take-le, take_more}
 use Rattle.syn_term.specs.Symbols.{SymbolTable}
 use Rattle.syn_lex.specs.TextLines.{with_feed}
 use Rattle.syn_row.specs.Rows.{RowTree}
 use Rattle.syn_start.specs.declared.steps.Step.{Step}
 use Rattle.syn_start.specs.Derivations.{Lines}
-use Rattle.syn_start.specs.Starts.{StartTree}
-use Rattle.syn_deriv.specs.PrintedDerivation.{position_text, printed_derivation, printed_line, printed_lines}
+use Rattle.syn_deriv.specs.PrintedDerivation.{position_text, printed_line, printed_lines}
 
 -- a position was put by its numbers
 pub position_put : (steps position mid new : List ℕ) → steps ≡ position → new ≡ mid ++ position_text steps → new ≡ mid ++ position_text position
