@@ -1,13 +1,14 @@
 // The text of a derivation: its first line, and a line for each row.
-ghost use Rattle.std.specs.Prelude.{◌≡◌, ◌++◌, OnOk, IfOk, codes, decimal, string_bytes, true};
+ghost use Rattle.std.specs.Prelude.{◌≡◌, ◌++◌, OnOk, IfOk, Some, codes, decimal, string_bytes, true};
 ghost use Rattle.std.specs.List.{flat_map};
 ghost use Rattle.syn_term.specs.DeclaredSorts.{IsTable};
-ghost use Rattle.syn_form.specs.Printing.{printed_form, printed_out};
+ghost use Rattle.syn_form.specs.Printing.{printed_form};
 ghost use Rattle.syn_form.specs.Writing.{CanWriteTable};
 ghost use Rattle.syn_lex.specs.TextLines.{with_feed};
 ghost use Rattle.syn_deriv.specs.DerivationLines as lines;
 ghost use Rattle.syn_deriv.specs.DerivationLines.{IsDerivationText, bare_lines};
-ghost use Rattle.syn_deriv.specs.PrintedDerivation.{ArePrintable, output_text, printed_derivation, printed_line, printed_lines, printed_row, step_text};
+ghost use Rattle.syn_deriv.specs.PrintedDerivation.{ArePrintable, output_text, printed_derivation, printed_line};
+ghost use Rattle.syn_deriv.specs.PrintedDerivation.{printed_lines, printed_row, step_text};
 
 use crate::print_steps::put_step;
 use crate::row_forms::row_scope;
@@ -47,7 +48,7 @@ fn put_form(alloc: Global, out: &mut String, syms: &Symbols, f: &Form) -> Result
 
 /// Puts ` | ` and the output.
 fn put_barred(alloc: Global, out: &mut String, syms: &Symbols, o: &Out) -> Result<(), NoMemory>
-    ensures { OnOk result (string_bytes out.new ≡ string_bytes out.old ++ (codes " | " ++ printed_out (lines.row_scope syms.now) o.now)) }
+    ensures { OnOk result (string_bytes out.new ≡ string_bytes out.old ++ output_text syms.now (Some o.now)) }
 {
     let text = print_out(alloc, &row_scope(syms), o)?;
     put(out, " | ")?;
@@ -81,7 +82,8 @@ fn put_row(alloc: Global, out: &mut String, syms: &Symbols, row: &Row) -> Result
 
 /// `N RULE: `.
 fn put_front(out: &mut String, number: u64, step: &Step) -> Result<(), NoMemory>
-    ensures { OnOk result (string_bytes out.new ≡ string_bytes out.old ++ (decimal number ++ codes " " ++ step_text step.now ++ codes ": ")) }
+    ensures { OnOk result (
+        string_bytes out.new ≡ string_bytes out.old ++ (decimal number ++ codes " " ++ step_text step.now ++ codes ": ")) }
 {
     put_count(out, number)?;
     put(out, " ")?;
@@ -111,7 +113,8 @@ fn put_lines(
     syms: &Symbols,
     rows: &[(Step, Row)],
 ) -> Result<(), NoMemory>
-    ensures { OnOk result (string_bytes out.new ≡ string_bytes out.old ++ flat_map with_feed (printed_lines syms.now 1 rows.now)) }
+    ensures { OnOk result (
+        string_bytes out.new ≡ string_bytes out.old ++ flat_map with_feed (printed_lines syms.now 1 rows.now)) }
 {
     for i in 0..rows.len() {
         put_line(alloc, out, syms, i as u64 + 1, &rows[i])?;
@@ -144,7 +147,8 @@ fn look(start: &Start)
 /// result; and there are fewer than 10,000,000 rows. The one error is want of memory.
 pub fn print_derivation(alloc: Global, start: &Start, d: &Derivation) -> Result<String, NoMemory>
     ensures text { IfOk result (λ text. string_bytes text ≡ printed_derivation start.now d.now) }
-    ensures reads_back { IfOk result (λ text. ArePrintable start.now d.now → IsDerivationText start.now (string_bytes text) (bare_lines d.now)) }
+    ensures reads_back { IfOk result (λ text.
+        ArePrintable start.now d.now → IsDerivationText start.now (string_bytes text) (bare_lines d.now)) }
 {
     look(start);
     derivation_text(alloc, start, d)

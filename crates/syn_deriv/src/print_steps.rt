@@ -1,6 +1,7 @@
 // The text of a step: the rule, and the rows, positions and names that it takes.
 ghost use Rattle.std.specs.Prelude.{◌≡◌, ◌++◌, OnOk, codes, decimal, map, string_bytes};
 ghost use Rattle.syn_form.specs.Printing.{joined};
+ghost use Rattle.syn_start.specs.declared.steps.Step.TheVariants as step;
 ghost use Rattle.syn_deriv.specs.DerivationLines as lines;
 ghost use Rattle.syn_deriv.specs.PrintedDerivation.{origin_text, position_text, positions_text, step_text, used_text};
 
@@ -117,7 +118,7 @@ fn put_origin(out: &mut String, origin: &Origin) -> Result<(), NoMemory>
 
 /// `split N I`.
 fn put_split(out: &mut String, row: u32, member: u32) -> Result<(), NoMemory>
-    ensures { OnOk result (string_bytes out.new ≡ string_bytes out.old ++ (codes "split " ++ decimal row ++ codes " " ++ decimal member)) }
+    ensures { OnOk result (string_bytes out.new ≡ string_bytes out.old ++ step_text (step.Split row member)) }
 {
     put(out, "split ")?;
     put_number(out, row)?;
@@ -133,7 +134,7 @@ fn put_resolve(
     second: u32,
     qs: &[Pos],
 ) -> Result<(), NoMemory>
-    ensures { OnOk result (string_bytes out.new ≡ string_bytes out.old ++ (codes "resolve " ++ decimal first ++ codes " " ++ positions_text ps.now ++ codes " " ++ decimal second ++ codes " " ++ positions_text qs.now)) }
+    ensures { OnOk result (string_bytes out.new ≡ string_bytes out.old ++ step_text (step.Resolve first ps.now second qs.now)) }
 {
     put(out, "resolve ")?;
     put_row_positions(out, first, ps)?;
