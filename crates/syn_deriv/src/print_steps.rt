@@ -178,7 +178,8 @@ fn put_equal(
     second: u32,
     place: &Pos,
 ) -> Result<(), NoMemory>
-    ensures { OnOk result (string_bytes out.new ≡ string_bytes out.old ++ step_text (step.Equal first at.now dir second place.now)) }
+    ensures { OnOk result (
+        string_bytes out.new ≡ string_bytes out.old ++ step_text (step.Equal first at.now dir second place.now)) }
 {
     put(out, "equal ")?;
     put_used(out, first, at, dir, second, place)
@@ -193,7 +194,8 @@ fn put_relate(
     second: u32,
     place: &Pos,
 ) -> Result<(), NoMemory>
-    ensures { OnOk result (string_bytes out.new ≡ string_bytes out.old ++ step_text (step.Relate first at.now dir second place.now)) }
+    ensures { OnOk result (
+        string_bytes out.new ≡ string_bytes out.old ++ step_text (step.Relate first at.now dir second place.now)) }
 {
     put(out, "relate ")?;
     put_used(out, first, at, dir, second, place)
