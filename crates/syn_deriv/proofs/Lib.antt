@@ -6,3 +6,8 @@ pub mod PositionsRead
 pub mod Bars
 pub mod BareRows
 pub mod RowsTold
+pub mod PrintedSpelling
+pub mod PrintedSteps
+pub mod PrintedRows
+pub mod PrintedBack
+pub mod PrintedPieces
