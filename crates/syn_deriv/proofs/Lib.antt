@@ -1,0 +1,13 @@
+pub mod NumberLaws
+pub mod FirstLaws
+pub mod StepRead
+pub mod StepReads
+pub mod PositionsRead
+pub mod Bars
+pub mod BareRows
+pub mod RowsTold
+pub mod PrintedSpelling
+pub mod PrintedSteps
+pub mod PrintedRows
+pub mod PrintedBack
+pub mod PrintedPieces

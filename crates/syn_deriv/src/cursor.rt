@@ -114,13 +114,7 @@ impl<'a> Cursor<'a> {
     {
         match self.name() {
             None => None,
-            Some(name) => {
-                if is_word(name) {
-                    None
-                } else {
-                    Some(name)
-                }
-            }
+            Some(name) => { if is_word(name) { None } else { Some(name) } }
         }
     }
 

@@ -82,11 +82,7 @@ impl<'a> Cursor<'a> {
     }
 
     /// `lr N POS`, behind the equality or atom that is used.
-    fn changed(
-        &mut self,
-        alloc: Global,
-        used: RowPosition,
-    ) -> Result<Option<Replacement>, NoMemory>
+    fn changed(&mut self, alloc: Global, used: RowPosition) -> Result<Option<Replacement>, NoMemory>
         ensures { IfOk result (λ o. MatchOption o (reading.changed_first used self.old.left ≡ None) (λ u. reading.changed_first used self.old.left ≡ Some (got u self.new.left))) }
     {
         let Some(way) = self.direction() else {

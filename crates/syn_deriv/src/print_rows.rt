@@ -1,11 +1,14 @@
 // The text of a derivation: its first line, and a line for each row.
-ghost use Rattle.std.specs.Prelude.{◌≡◌, ◌++◌, OnOk, IfOk, codes, decimal, string_bytes};
+ghost use Rattle.std.specs.Prelude.{◌≡◌, ◌++◌, OnOk, IfOk, Some, codes, decimal, string_bytes, true};
 ghost use Rattle.std.specs.List.{flat_map};
-ghost use Rattle.syn_form.specs.Printing.{printed_form, printed_out};
+ghost use Rattle.syn_term.specs.DeclaredSorts.{IsTable};
+ghost use Rattle.syn_form.specs.Printing.{printed_form};
+ghost use Rattle.syn_form.specs.Writing.{CanWriteTable};
 ghost use Rattle.syn_lex.specs.TextLines.{with_feed};
 ghost use Rattle.syn_deriv.specs.DerivationLines as lines;
 ghost use Rattle.syn_deriv.specs.DerivationLines.{IsDerivationText, bare_lines};
-ghost use Rattle.syn_deriv.specs.PrintedDerivation.{ArePrintable, output_text, printed_derivation, printed_line, printed_lines, printed_row, step_text};
+ghost use Rattle.syn_deriv.specs.PrintedDerivation.{ArePrintable, output_text, printed_derivation, printed_line};
+ghost use Rattle.syn_deriv.specs.PrintedDerivation.{printed_lines, printed_row, step_text};
 
 use crate::print_steps::put_step;
 use crate::row_forms::row_scope;
@@ -15,7 +18,7 @@ use syn_expr::{print_form, print_out, put};
 use syn_form::{Form, Out, Side};
 use syn_row::Row;
 use syn_start::{Derivation, Start, Step};
-use syn_term::{NoMemory, Symbols};
+use syn_term::{NoMemory, Sort, Symbols};
 
 /// The kind of a row as it is written.
 fn side_name(side: Side) -> &'static str
@@ -45,7 +48,7 @@ fn put_form(alloc: Global, out: &mut String, syms: &Symbols, f: &Form) -> Result
 
 /// Puts ` | ` and the output.
 fn put_barred(alloc: Global, out: &mut String, syms: &Symbols, o: &Out) -> Result<(), NoMemory>
-    ensures { OnOk result (string_bytes out.new ≡ string_bytes out.old ++ (codes " | " ++ printed_out (lines.row_scope syms.now) o.now)) }
+    ensures { OnOk result (string_bytes out.new ≡ string_bytes out.old ++ output_text syms.now (Some o.now)) }
 {
     let text = print_out(alloc, &row_scope(syms), o)?;
     put(out, " | ")?;
@@ -79,7 +82,8 @@ fn put_row(alloc: Global, out: &mut String, syms: &Symbols, row: &Row) -> Result
 
 /// `N RULE: `.
 fn put_front(out: &mut String, number: u64, step: &Step) -> Result<(), NoMemory>
-    ensures { OnOk result (string_bytes out.new ≡ string_bytes out.old ++ (decimal number ++ codes " " ++ step_text step.now ++ codes ": ")) }
+    ensures { OnOk result (
+        string_bytes out.new ≡ string_bytes out.old ++ (decimal number ++ codes " " ++ step_text step.now ++ codes ": ")) }
 {
     put_count(out, number)?;
     put(out, " ")?;
@@ -109,7 +113,8 @@ fn put_lines(
     syms: &Symbols,
     rows: &[(Step, Row)],
 ) -> Result<(), NoMemory>
-    ensures { OnOk result (string_bytes out.new ≡ string_bytes out.old ++ flat_map with_feed (printed_lines syms.now 1 rows.now)) }
+    ensures { OnOk result (
+        string_bytes out.new ≡ string_bytes out.old ++ flat_map with_feed (printed_lines syms.now 1 rows.now)) }
 {
     for i in 0..rows.len() {
         put_line(alloc, out, syms, i as u64 + 1, &rows[i])?;
@@ -127,15 +132,24 @@ fn derivation_text(alloc: Global, start: &Start, d: &Derivation) -> Result<Strin
     Ok(out)
 }
 
+/// Nothing: what is told is that the table is well formed, and that each of its symbols has a text in rows.
+fn look(start: &Start)
+    ensures table { IsTable (start.now).spec.table }
+    ensures written { CanWriteTable true (start.now).spec.table }
+{
+    let syms = start.spec().symbols();
+    let _ = syms.sort_name(Sort::Nat);
+}
+
 /// The one text of the derivation. It reads back to an equal one where each line has a text: the step's names
 /// are names and its numbers have at most seven digits; the row is plain and within the limit of a row, its
 /// variables are numbered from 1 with at most seven digits, and its output has the sort of the program's
 /// result; and there are fewer than 10,000,000 rows. The one error is want of memory.
 pub fn print_derivation(alloc: Global, start: &Start, d: &Derivation) -> Result<String, NoMemory>
     ensures text { IfOk result (λ text. string_bytes text ≡ printed_derivation start.now d.now) }
-    ensures reads_back { IfOk result (λ text. ArePrintable start.now d.now → IsDerivationText start.now (string_bytes text) (bare_lines d.now)) }
+    ensures reads_back { IfOk result (λ text.
+        ArePrintable start.now d.now → IsDerivationText start.now (string_bytes text) (bare_lines d.now)) }
 {
-    // So it is known that the specification is one over the theory, and that its table is one.
-    let _spec = start.spec();
+    look(start);
     derivation_text(alloc, start, d)
 }

@@ -7,6 +7,7 @@ ghost use Rattle.syn_form.specs.Texts.{IsFormOf, IsOutOf, expression_limit};
 ghost use Rattle.syn_form.specs.Trees.{bare_form, bare_out};
 ghost use Rattle.syn_expr.specs.Belonging.{FormBelongs, OutBelongs};
 ghost use Rattle.syn_expr.specs.Scopes.{spoken};
+ghost use Rattle.syn_expr.specs.TextAnswers.{OneAtMost};
 ghost use Rattle.syn_row.specs.Rows.{bare_row};
 ghost use Rattle.syn_start.specs.Rows.{IsRowOf};
 ghost use Rattle.syn_deriv.specs.DerivationLines as lines;
@@ -43,6 +44,7 @@ fn row_form(
     words: &Words,
 ) -> Result<Option<Form>, NoMemory>
     ensures told { IfOk result (Tells bare_form (IsFormOf expression_limit (lines.row_scope syms.now) words.now)) }
+    ensures one { OneAtMost (IsFormOf expression_limit (lines.row_scope syms.now) words.now) }
     ensures belongs { IfOk result (λ o. IfSome o (FormBelongs bank.new)) }
     ensures extends { Extends bank.old bank.new }
 {
@@ -62,6 +64,7 @@ fn row_out(
     words: &Words,
 ) -> Result<Option<Out>, NoMemory>
     ensures told { IfOk result (Tells bare_out (IsOutOf expression_limit (lines.row_scope syms.now) words.now)) }
+    ensures one { OneAtMost (IsOutOf expression_limit (lines.row_scope syms.now) words.now) }
     ensures belongs { IfOk result (λ o. IfSome o (OutBelongs bank.new)) }
     ensures extends { Extends bank.old bank.new }
 {

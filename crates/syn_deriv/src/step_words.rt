@@ -4,10 +4,48 @@ ghost use Rattle.syn_deriv.specs.inner.Firsts.{got};
 ghost use Rattle.syn_deriv.specs.inner.StepReading as reading;
 
 use crate::cursor::{Cursor, is_text};
-use crate::places::RowPositions;
+use crate::places::{Replacement, RowPosition, RowPositions};
 use std::alloc::Global;
 use syn_start::{Origin, Step};
 use syn_term::{NoMemory, Text};
+
+/// The replacement by an equality.
+fn equality_step(made: Replacement) -> Step
+    ensures { result ≡ reading.equality_step made }
+{
+    let Replacement { used, way, changed } = made;
+    let RowPosition { row: first, at } = used;
+    let RowPosition {
+        row: second,
+        at: place,
+    } = changed;
+    Step::Equal {
+        first,
+        at,
+        dir: way,
+        second,
+        place,
+    }
+}
+
+/// The same by an atom of two arguments.
+fn relation_step(made: Replacement) -> Step
+    ensures { result ≡ reading.relation_step made }
+{
+    let Replacement { used, way, changed } = made;
+    let RowPosition { row: first, at } = used;
+    let RowPosition {
+        row: second,
+        at: place,
+    } = changed;
+    Step::Relate {
+        first,
+        at,
+        dir: way,
+        second,
+        place,
+    }
+}
 
 impl<'a> Cursor<'a> {
     /// `NAME`, behind `axiom`. The one error of each of these is want of memory.
@@ -114,13 +152,7 @@ impl<'a> Cursor<'a> {
     {
         match self.replacement(alloc)? {
             None => Ok(None),
-            Some(made) => Ok(Some(Step::Equal {
-                first: made.used.row,
-                at: made.used.at,
-                dir: made.way,
-                second: made.changed.row,
-                place: made.changed.at,
-            })),
+            Some(made) => Ok(Some(equality_step(made))),
         }
     }
 
@@ -130,13 +162,7 @@ impl<'a> Cursor<'a> {
     {
         match self.replacement(alloc)? {
             None => Ok(None),
-            Some(made) => Ok(Some(Step::Relate {
-                first: made.used.row,
-                at: made.used.at,
-                dir: made.way,
-                second: made.changed.row,
-                place: made.changed.at,
-            })),
+            Some(made) => Ok(Some(relation_step(made))),
         }
     }
 
