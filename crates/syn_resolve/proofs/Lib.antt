@@ -8,6 +8,8 @@ pub mod Instances
 pub mod BroughtCalls
 pub mod PartsAt
 pub mod SameFigures
+pub mod JoinedRows
+pub mod SidesStill
 pub mod ReflexAnswers
 pub mod Standing
 pub mod Grown
