@@ -20,3 +20,5 @@ pub mod JointRows
 pub mod PartsFormed
 pub mod JointAnswers
 pub mod ApartAnswers
+pub mod ReplaceRows
+pub mod ReplaceAnswers

@@ -2,7 +2,7 @@
 use Rattle.std.proofs.Common.{◌≡◌, ℕ, false, List, [], ◌∷◌, Option, Some, All, Contains, IfSome, map, ◌∙◌, ap}
 use Rattle.std.specs.List.{flat_map}
 use Rattle.std.specs.Option.{option_map, option_map_or}
-use Rattle.std.proofs.lemmas.List.Elements.{Contains-append_cases, Contains-append_left, Contains-append_right}
+use Rattle.std.proofs.lemmas.List.Elements.{All-head, All-tail, Contains-append_cases, Contains-append_left}
 use Rattle.std.proofs.Common.{◌⊎◌, inl, inr}
 use Rattle.syn_term.specs.declared.sorts.Var.{Var}
 use Rattle.syn_term.specs.Symbols.{SymbolTable}
@@ -22,7 +22,7 @@ use Rattle.syn_row.specs.Results.{AreApart, Figure, Gives, joined_form, joined_s
 use Rattle.syn_row.specs.Rows.{IsPlain, RowTree, bare_row}
 use Rattle.syn_row.proofs.Renaming.{Within, renaming_by}
 use Rattle.syn_resolve.specs.Replacement.{EqualGives, looked_for, put_there, replaced}
-use Rattle.syn_row.proofs.Agreeing.{AreAmong}
+use Rattle.syn_row.proofs.Agreeing.{AreAmong, within_each}
 use Rattle.syn_row.proofs.Alike.{AreAlike, alike_gives, alike_one, renamed_form}
 use Rattle.syn_row.proofs.General.{Passes, image_vars}
 use Rattle.syn_row.proofs.Leading.{Moving, term_trees, unifiers_pass}
@@ -56,9 +56,31 @@ abbrev pub replace_figure : (table : SymbolTable) (rule : Option GuardRule) (r :
 replace_figure table rule r at way s place c = replaced rule c.unifier (substituted_form c.unifier (form.Equal c.site.left c.site.right)) place (substituted c.unifier (put_there way c.site.left c.site.right)) c.site.first c.site.second
 
 -- what holds of both sides holds of the one that is looked for, and of the other
-either_side : (P : TermTree → TermTree → Type 0) (way : Dir) (s t s' t' : TermTree) → P s s' → P t t' → P (looked_for way s t) (looked_for way s' t') × P (put_there way s t) (put_there way s' t')
+pub either_side : (P : TermTree → TermTree → Type 0) (way : Dir) (s t s' t' : TermTree) → P s s' → P t t' → P (looked_for way s t) (looked_for way s' t') × P (put_there way s t) (put_there way s' t')
 either_side P dir.Lr s t s' t' a b = (a, b)
 either_side P dir.Rl s t s' t' a b = (b, a)
+
+-- the side that is looked for and the term have the variables of the two formulas alone, and so has the side that is put in
+module _ (vars : List Var) (at : List ℕ) (way : Dir) (place : List ℕ) (f g : FormTree) (left right old : TermTree) (there : at_position at (formula f) ≡ Some (formula (form.Equal left right))) (old_there : at_position place (formula g) ≡ Some (term old)) (hf : AreAmong (form_vars f) vars) (hg : AreAmong (form_vars g) vars) where
+  sides : All (Within vars) (left ∷ right ∷ [])
+  sides = within_each vars (left ∷ right ∷ []) (sides_among vars (λ v. v) left right (part_among vars at f (form.Equal left right) there hf))
+
+  pub side_among : Within vars (looked_for way left right) × Within vars (put_there way left right)
+  side_among = either_side (λ t u. Within vars t) way left right left right (All-head (Within vars) left (right ∷ []) sides) (All-head (Within vars) right [] (All-tail (Within vars) left (right ∷ []) sides))
+
+  pub old_within : Within vars old
+  old_within = term_part_among vars place g old old_there hg
+
+  pub terms_among : AreAmong (flat_map term_vars (looked_for way left right ∷ old ∷ [])) vars
+  terms_among v c = go (Contains-append_cases (term_vars (looked_for way left right)) (flat_map term_vars (old ∷ [])) v c)
+    where
+      last : Contains (term_vars old) v ⊎ Contains [] v → Contains vars v
+      last (inl d) = old_within v d
+      last (inr d) = absurd (none_in_nil v d)
+
+      go : Contains (term_vars (looked_for way left right)) v ⊎ Contains (flat_map term_vars (old ∷ [])) v → Contains vars v
+      go (inl d) = side_among.0 v d
+      go (inr d) = last (Contains-append_cases (term_vars old) [] v d)
 
 -- two sites of the same rows
 module _ (r : RowTree) (at : List ℕ) (way : Dir) (s : RowTree) (place : List ℕ) (a b : ReplaceSite r at s place) where
@@ -98,31 +120,14 @@ module _ (r : RowTree) (at : List ℕ) (way : Dir) (s : RowTree) (place : List �
   pub chosen_moved : (bare (substituted moved (looked_for way a.left a.right)) ≡ bare (looked_for way b.left b.right)) × (bare (substituted moved (put_there way a.left a.right)) ≡ bare (put_there way b.left b.right))
   chosen_moved = either_side (λ t u. bare (substituted moved t) ≡ bare u) way a.left a.right b.left b.right both_moved.0 both_moved.1
 
-  left_among : AreAmong (term_vars a.left) vars
-  left_among v c = sides_among vars over a.left a.right equal_among v (Contains-append_left (term_vars a.left) (flat_map term_vars (a.right ∷ [])) v c)
-
-  right_among : AreAmong (term_vars a.right) vars
-  right_among v c = sides_among vars over a.left a.right equal_among v (Contains-append_right (term_vars a.left) (flat_map term_vars (a.right ∷ [])) v (Contains-append_left (term_vars a.right) [] v c))
-
   pub chosen_among : AreAmong (term_vars (looked_for way a.left a.right)) vars × AreAmong (term_vars (put_there way a.left a.right)) vars
-  chosen_among = either_side (λ t u. AreAmong (term_vars t) vars) way a.left a.right a.left a.right left_among right_among
-
-  pub old_among : AreAmong (term_vars a.old) vars
-  old_among = term_part_among vars place a.second.form a.old a.old_there (row_form_among a.second b.second other_moved)
+  chosen_among = side_among vars at way place a.first.form a.second.form a.left a.right a.old a.there a.old_there (row_form_among a.first b.first one_moved) (row_form_among a.second b.second other_moved)
 
   pub old_moved : bare (substituted moved a.old) ≡ bare b.old
   old_moved = term_at_both vars over place a.second.form b.second.form a.old b.old (ap (λ (z : RowTree). z.form) other_moved.is) a.old_there b.old_there
 
-  pub pair_among : AreAmong (flat_map term_vars (looked_for way a.left a.right ∷ a.old ∷ [])) vars
-  pair_among v c = go (Contains-append_cases (term_vars (looked_for way a.left a.right)) (flat_map term_vars (a.old ∷ [])) v c)
-    where
-      last : Contains (term_vars a.old) v ⊎ Contains [] v → Contains vars v
-      last (inl d) = old_among v d
-      last (inr d) = absurd (none_in_nil v d)
-
-      go : Contains (term_vars (looked_for way a.left a.right)) v ⊎ Contains (flat_map term_vars (a.old ∷ [])) v → Contains vars v
-      go (inl d) = chosen_among.0 v d
-      go (inr d) = last (Contains-append_cases (term_vars a.old) [] v d)
+  pub pair_among : AreAmong (flat_map term_vars (site_terms r at way s place a)) vars
+  pair_among = terms_among vars at way place a.first.form a.second.form a.left a.right a.old a.there a.old_there (row_form_among a.first b.first one_moved) (row_form_among a.second b.second other_moved)
 
   -- the terms of the one site, moved, are those of the other
   pub pair_moved : map (λ t. bare (substituted moved t)) (site_terms r at way s place a) ≡ map bare (site_terms r at way s place b)
