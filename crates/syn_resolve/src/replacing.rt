@@ -68,6 +68,7 @@ fn equality_put<'a>(form: &'a Form, at: &Pos, way: Dir) -> Option<(&'a Form, &'a
 
 /// A most general unifier of the side that is looked for, of the equality of the first row, and the term of the second row.
 /// None exactly where no equality or no term stands there, or nothing makes the two one.
+#[tactic(auto, using(crate::proofs::Growth::growth))]
 fn side_unifier(
     alloc: Global,
     bank: &mut Bank,

@@ -13,7 +13,7 @@ pub unify_terms-requires-clause-left : goal.unify_terms-requires-clause-left
 unify_terms-requires-clause-left c = sought_sorted c.args.at.now c.args.way (c.args.first.now).form _ _ _ c.in-Some.ensures c.side_sought.ensures c.args.syms.now c.requires.plain_first.form
 
 pub unify_terms-requires-clause-right : goal.unify_terms-requires-clause-right
-unify_terms-requires-clause-right c = term_sorted c.args.syms.now c.args.place.now (c.args.second.now).form _ c.in-Some-Some.ensures c.requires.plain_second.form
+unify_terms-requires-clause-right c = term_sorted c.args.syms.now c.args.place.now (c.args.second.now).form _ c.in-Some-term_at.ensures c.requires.plain_second.form
 
 pub unify_terms-requires-clause-left_own : goal.unify_terms-requires-clause-left_own
 unify_terms-requires-clause-left_own c =
@@ -21,16 +21,16 @@ unify_terms-requires-clause-left_own c =
 
 pub unify_terms-requires-clause-right_own : goal.unify_terms-requires-clause-right_own
 unify_terms-requires-clause-right_own c =
-    term_belongs _ c.args.place.now (c.args.second.now).form _ c.in-Some-Some.ensures (All-left (Belongs _) (form_terms (c.args.second.now).form) (option_map_or out_terms (c.args.second.now).out []) c.requires.own_second)
+    term_belongs _ c.args.place.now (c.args.second.now).form _ c.in-Some-term_at.ensures (All-left (Belongs _) (form_terms (c.args.second.now).form) (option_map_or out_terms (c.args.second.now).out []) c.requires.own_second)
 
 pub returns-in-None-clause-unifier : goal.returns-in-None-clause-unifier
 returns-in-None-clause-unifier c = no_equality c.args.syms.now c.args.at.now c.args.way c.args.place.now (c.args.first.now).form (c.args.second.now).form (MatchOption-at_none _ _ c.in-None.is c.equality_at.ensures)
 
-pub returns-in-Some-None-clause-unifier : goal.returns-in-Some-None-clause-unifier
-returns-in-Some-None-clause-unifier c = no_term_there c.args.syms.now c.args.at.now c.args.way c.args.place.now (c.args.first.now).form (c.args.second.now).form (MatchOption-at_none _ _ c.in-Some-None.is c.term_at.ensures)
+pub returns-in-None-term_at-clause-unifier : goal.returns-in-None-term_at-clause-unifier
+returns-in-None-term_at-clause-unifier c = no_term_there c.args.syms.now c.args.at.now c.args.way c.args.place.now (c.args.first.now).form (c.args.second.now).form (MatchOption-at_none _ _ c.in-None-term_at.is c.term_at.ensures)
 
-pub returns-in-Some-Some-clause-unifier : goal.returns-in-Some-Some-clause-unifier
-returns-in-Some-Some-clause-unifier c =
+pub returns-in-Some-term_at-clause-unifier : goal.returns-in-Some-term_at-clause-unifier
+returns-in-Some-term_at-clause-unifier c =
     IfOk-weaker c.unify_terms.result _ _
-    (λ o h. side_answer c.args.at.now c.args.way (c.args.first.now).form _ _ _ c.in-Some.ensures c.side_sought.ensures c.args.syms.now c.args.place.now (c.args.second.now).form _ c.in-Some-Some.ensures o h)
+    (λ o h. side_answer c.args.at.now c.args.way (c.args.first.now).form _ _ _ c.in-Some.ensures c.side_sought.ensures c.args.syms.now c.args.place.now (c.args.second.now).form _ c.in-Some-term_at.ensures o h)
     c.unify_terms.ensures.unifier
