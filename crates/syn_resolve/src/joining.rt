@@ -231,7 +231,5 @@ pub(crate) fn given_of_both(
     ensures within { IfOk result (λ o. IfSome o IsWithinRow) }
 {
     let g = replace_all(alloc, &b.form, p, false)?;
-    given_with(
-        alloc, bank, syms, p, true, a, b, g, guards, &a.out, &b.out,
-    )
+    given_with(alloc, bank, syms, p, true, a, b, g, guards, &a.out, &b.out)
 }

@@ -17,6 +17,7 @@ ghost use Rattle.syn_row.specs.JoinLaws.{GiveOneSort};
 ghost use Rattle.syn_row.specs.Rows.{IsPlain, IsSimplified, IsWithinRow, RowTree, row_terms, row_vars};
 ghost use Rattle.syn_unify.specs.Bindings.{BindsOwn};
 ghost use Rattle.syn_resolve.specs.Replacement.{EqualGives, looked_for, put_there, replaced};
+ghost use Rattle.syn_resolve.specs.RuleLaws.{RuleLaws};
 ghost use Rattle.syn_resolve.specs.inner.Reflexing.{AreBoundAmong, FigureGives};
 ghost use Rattle.syn_resolve.specs.inner.Replacing.{ApartReplaces, NoneUnifiesSide, PutsSide, SideGives, UnifiesSide, row_replaced};
 ghost use Rattle.syn_resolve.specs.inner.Resolving.{IsInstance, IsPair, figure_of};
@@ -126,9 +127,7 @@ fn given_replaced(
     ensures within { IfOk result (λ o. IfSome o IsWithinRow) }
 {
     match replace_term(alloc, bank, syms, &b.form, place, new) {
-        Ok(Some(g)) => given_with(
-            alloc, bank, syms, e, false, a, b, g, guards, &b.out, &a.out,
-        ),
+        Ok(Some(g)) => given_with(alloc, bank, syms, e, false, a, b, g, guards, &b.out, &a.out),
         Ok(None) => unreachable!(),
         Err(error) => Err(error),
     }
@@ -174,9 +173,7 @@ fn replaced_instances(
     ensures within { IfOk result (λ o. IfSome o IsWithinRow) }
 {
     let guards = joint_guards(alloc, bank, syms, rule, s, e, first, second)?;
-    let made = given_replaced(
-        alloc, bank, syms, e, new, place, a, b, guards.as_slice(),
-    );
+    let made = given_replaced(alloc, bank, syms, e, new, place, a, b, guards.as_slice());
     drop(guards);
     made
 }
@@ -290,9 +287,7 @@ fn replaced_apart(
 {
     match side_unifier(alloc, bank, syms, first, at, way, second, place) {
         Ok(Some(s)) => {
-            let made = replaced_by(
-                alloc, bank, syms, rule, &s, first, at, way, second, place,
-            );
+            let made = replaced_by(alloc, bank, syms, rule, &s, first, at, way, second, place);
             drop(s);
             made
         }
@@ -309,7 +304,7 @@ fn replaced_apart(
 /// assertion takes part as the goal of its negation; two assertions give an assertion, `F or G or not` each guard. A guard stands
 /// for each program call that the unifier brings into an output, and for each in e where both rows have an output; without a guard
 /// rule there are none. What is answered is the canonical row of it, and every way to rename and every most general unifier give
-/// the same, which is the law `equal_one`. The two may be one row.
+/// the same. The two may be one row.
 ///
 /// `Lr` looks for the left side and puts the right one there, `Rl` the other way round. Where both rows have an output, the two
 /// give terms of one sort: else no output could be put together of them.
@@ -317,7 +312,9 @@ fn replaced_apart(
 /// None exactly where no equality stands at the position, no term stands at the place, no substitution that keeps sorts makes the
 /// side and the term one, the step has more than 65,536 nodes or a part deeper than 2,400, or what comes of it passes the limit of
 /// a row. The bank may have made nodes then. The one error is `NoMemory`.
-#[tactic(auto, using(crate::proofs::Growth::growth))]
+///
+/// That each rule gives one row at most, this one and splitting, duality, reflexivity and resolution, is the record `RuleLaws`.
+#[tactic(auto, using(crate::proofs::Laws::law_rules))]
 pub fn equal(
     alloc: Global,
     bank: &mut Bank,
@@ -342,6 +339,7 @@ pub fn equal(
     ensures plain { IfOk result (λ o. IfSome o (IsPlain syms.now)) }
     ensures simplified { IfOk result (λ o. IfSome o IsSimplified) }
     ensures within { IfOk result (λ o. IfSome o IsWithinRow) }
+    ensures laws { RuleLaws }
 {
     if !are_small(r, s) {
         return Ok(None);
