@@ -1,8 +1,7 @@
 -- What is answered of an equality in one row and a term in another one: of rows kept apart, and of the two rows that they were.
-use Rattle.std.proofs.Common.{◌≡◌, ◌≤◌, ◌+◌, ℕ, inl, inr, ◌⊎◌, List, [], ◌∷◌, ◌++◌, Option, None, Some, All, Contains, IfSome, MatchOption, refl, sym, ◌∙◌, ap, subst}
-use Rattle.std.specs.List.{flat_map}
+use Rattle.std.proofs.Common.{◌≡◌, ◌≤◌, ◌+◌, ℕ, inl, inr, List, [], ◌∷◌, ◌++◌, Option, None, Some, All, Contains, IfSome, MatchOption, refl, sym, ◌∙◌, ap, subst}
 use Rattle.std.specs.Option.{option_map_or}
-use Rattle.std.proofs.lemmas.List.Elements.{All-append, Contains-append_left, Contains-append_right}
+use Rattle.std.proofs.lemmas.List.Elements.{Contains-append_left, Contains-append_right}
 use Rattle.syn_term.specs.Bank.{Belongs, Kept}
 use Rattle.syn_term.specs.declared.sorts.Var.{Var}
 use Rattle.syn_term.specs.Symbols.{SymbolTable}
@@ -34,7 +33,7 @@ use Rattle.syn_unify.specs.Bindings.{HasNoUnifier}
 use Rattle.syn_resolve.specs.Replacement.{EqualGives, looked_for, put_there, replaced}
 use Rattle.syn_resolve.specs.inner.Instances.{FitsRow}
 use Rattle.syn_resolve.specs.inner.Reflexing.{AreBoundAmong, FigureGives}
-use Rattle.syn_resolve.specs.inner.Replacing.{ApartReplaces, NoneUnifiesSide, PutsSide, SideGives, UnifiesSide, side_figure}
+use Rattle.syn_resolve.specs.inner.Replacing.{ApartReplaces, NoneUnifiesSide, PutsSide, SideGives, UnifiesSide}
 use Rattle.syn_resolve.specs.inner.Resolving.{IsInstance, IsPair}
 use Rattle.syn_resolve.proofs.Grown.{apart_small, light_small}
 use Rattle.syn_resolve.proofs.JointAnswers.{both_fit}

@@ -1,6 +1,6 @@
 -- The row that comes of two instances, an equality in the first and a term of the second: it is that of the definition but for places,
 -- it is plain, and its terms are of the bank.
-use Rattle.std.proofs.Common.{◌≡◌, ◌⊎◌, inl, inr, ℕ, false, List, [], ◌∷◌, ◌++◌, Option, None, Some, All, Contains, IfSome, map, refl, sym, ◌∙◌, ap, subst}
+use Rattle.std.proofs.Common.{◌≡◌, ◌⊎◌, inl, inr, ℕ, false, List, [], ◌++◌, Option, None, Some, All, Contains, IfSome, map, refl, sym, ap}
 use Rattle.std.specs.List.{flat_map}
 use Rattle.std.specs.Option.{option_map, option_map_or}
 use Rattle.std.proofs.lemmas.List.Elements.{All-contains, Contains-append_cases}
@@ -8,10 +8,10 @@ use Rattle.syn_term.specs.Bank.{Belongs, Extends, Kept}
 use Rattle.syn_term.specs.declared.sorts.Var.{Var}
 use Rattle.syn_term.specs.Symbols.{SymbolTable}
 use Rattle.syn_term.specs.Terms.{TermTree, bare}
-use Rattle.syn_form.specs.Plain.{IsFormed, IsFormedOut, IsSorted}
+use Rattle.syn_form.specs.Plain.{IsFormed, IsSorted}
 use Rattle.syn_form.specs.Replacing.{MayReplaceTerm, form_replaced_at}
 use Rattle.syn_form.specs.Substitutions.{KeepsSorts, Substitution, substituted_form, substituted_out}
-use Rattle.syn_form.specs.Trees.{FormTree, OutTree, bare_form, bare_out, form_terms, form_vars, out_terms, term_vars}
+use Rattle.syn_form.specs.Trees.{FormTree, OutTree, bare_form, form_terms, form_vars, out_terms, term_vars}
 use Rattle.syn_form.proofs.InputTerms.{all_still}
 use Rattle.syn_form.proofs.Lists.{Contains-flat_map_from}
 use Rattle.syn_form.proofs.Owned.{All-left, All-right}
@@ -32,7 +32,7 @@ use Rattle.syn_resolve.proofs.JointCalls.{guards_same}
 use Rattle.syn_resolve.proofs.JointRows.{figure_same, joined_among, second_form_among, sorts_along}
 use Rattle.syn_resolve.proofs.JoinedRows.{joined_belongs, joined_plain, joined_row_same, placed_same}
 use Rattle.syn_resolve.proofs.PartsAt.{terms_sorted}
-use Rattle.syn_resolve.proofs.SameFigures.{SameFigures, same_gives}
+use Rattle.syn_resolve.proofs.SameFigures.{same_gives}
 
 pub sorts_back : (table : SymbolTable) (u v : Option OutTree) → GiveOneSort table u v → GiveOneSort table v u
 sorts_back table (Some u) (Some v) h = sym h

@@ -1,11 +1,10 @@
-use Rattle.std.proofs.Common.{◌≡◌, List, All, map, sym, ◌∙◌, ap, subst}
+use Rattle.std.proofs.Common.{◌≡◌, List, map, sym, ◌∙◌, ap, subst}
 use Rattle.std.specs.Option.{option_copied}
 use Rattle.std.proofs.lemmas.Result.{IfOk-weaker}
 use Rattle.std.proofs.lemmas.List.Elements.{All-contains}
 use Rattle.syn_term.specs.Bank.{Belongs}
 use Rattle.syn_form.specs.Trees.{FormTree, bare_form, form_terms}
 use Rattle.syn_form.proofs.InputTerms.{all_still}
-use Rattle.syn_row.specs.Calls.{forms_terms}
 use Rattle.syn_row.specs.Guards.{joined_guards}
 use Rattle.syn_row.specs.Rows.{IsPlain, row_terms}
 use Rattle.syn_resolve.specs.inner.Replacing.{row_replaced}
