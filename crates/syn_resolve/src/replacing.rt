@@ -296,24 +296,25 @@ fn replaced_apart(
     }
 }
 
-/// The row that equality replacement gives of two rows, by the equality that stands in the first at this position, at this place
-/// of the second. The rule is one of Manna and Waldinger (1980, 1992): the variables of both rows are renamed apart, and a most
-/// general unifier makes one of the equality's sides, the one that is looked for, and the term at the place one. Of two goals F
-/// and G with the outputs t and u, where e is the instance of the equality, comes the goal `F and G` and the guards, where e is
-/// `false` in F and the other side stands at the place in G, with the output `if e then u else t`, or the one that is there. An
-/// assertion takes part as the goal of its negation; two assertions give an assertion, `F or G or not` each guard. A guard stands
-/// for each program call that the unifier brings into an output, and for each in e where both rows have an output; without a guard
-/// rule there are none. What is answered is the canonical row of it, and every way to rename and every most general unifier give
-/// the same. The two may be one row.
+/// The row that equality replacement gives of two rows, by the equality that stands in the first at this position, at this
+/// place of the second. The rule is one of Manna and Waldinger (1980, 1992): the variables of both rows are renamed apart,
+/// and a most general unifier makes one of the equality's sides, the one that is looked for, and the term at the place one.
+/// Of two goals F and G with the outputs t and u, where e is the instance of the equality, comes the goal `F and G` and the
+/// guards, where e is `false` in F and the other side stands at the place in G, with the output `if e then u else t`, or the
+/// one that is there. An assertion takes part as the goal of its negation; two assertions give an assertion, `F or G or not`
+/// each guard. A guard stands for each program call that the unifier brings into an output, and for each in e where both rows
+/// have an output; without a guard rule there are none. What is answered is the canonical row of it, and every way to rename
+/// and every most general unifier give the same. The two may be one row.
 ///
-/// `Lr` looks for the left side and puts the right one there, `Rl` the other way round. Where both rows have an output, the two
-/// give terms of one sort: else no output could be put together of them.
+/// `Lr` looks for the left side and puts the right one there, `Rl` the other way round. Where both rows have an output, the
+/// two give terms of one sort: else no output could be put together of them.
 ///
-/// None exactly where no equality stands at the position, no term stands at the place, no substitution that keeps sorts makes the
-/// side and the term one, the step has more than 65,536 nodes or a part deeper than 2,400, or what comes of it passes the limit of
-/// a row. The bank may have made nodes then. The one error is `NoMemory`.
+/// None exactly where no equality stands at the position, no term stands at the place, no substitution that keeps sorts makes
+/// the side and the term one, the step has more than 65,536 nodes or a part deeper than 2,400, or what comes of it passes the
+/// limit of a row. The bank may have made nodes then. The one error is `NoMemory`.
 ///
-/// That each rule gives one row at most, this one and splitting, duality, reflexivity and resolution, is the record `RuleLaws`.
+/// That each rule gives one row at most, this one and splitting, duality, reflexivity and resolution, is the record
+/// `RuleLaws`.
 #[tactic(auto, using(crate::proofs::Laws::law_rules))]
 pub fn equal(
     alloc: Global,
