@@ -84,22 +84,23 @@ module _ (σ : Substitution) (first second : RowTree) (gs : List FormTree) (ligh
   outs_shallow : All ShallowOut (map (substituted_out σ) (out_list first.out) ++ map (substituted_out σ) (out_list second.out))
   outs_shallow = subst (All ShallowOut) (map-append (substituted_out σ) (out_list first.out) (out_list second.out)) light.shallow_outs
 
-  pub first_fits : FitsRow σ first
+  first_fits : FitsRow σ first
   first_fits = (
     (let a = few in omega arith, All-head Shallow f (g ∷ gs) light.shallow),
     of_out first.out (let a = few in omega arith) (All-left ShallowOut (map (substituted_out σ) (out_list first.out)) (map (substituted_out σ) (out_list second.out)) outs_shallow),
   )
 
-  pub second_fits : FitsRow σ second
+  second_fits : FitsRow σ second
   second_fits = (
     (let a = few in omega arith, All-head Shallow g gs (All-tail Shallow f (g ∷ gs) light.shallow)),
     of_out second.out (let a = few in omega arith) (All-right ShallowOut (map (substituted_out σ) (out_list first.out)) (map (substituted_out σ) (out_list second.out)) outs_shallow),
   )
 
--- an instance that is too large gives none
-module _ (rule : Option GuardRule) (σ : Substitution) (at : List ℕ) (first second : RowTree) (there : HasPart at first.form) where
-  pub first_large : (FitsRow σ first → ⊥) → PartGives rule σ at first second None
-  first_large large = (there.0, substituted_form σ there.0, there.1, refl, λ q g. large (first_fits σ first second (joined_guards rule σ (substituted_form σ there.0) first.out second.out) g.light))
+  pub both_fit : FitsRow σ first × FitsRow σ second
+  both_fit = (first_fits, second_fits)
 
-  pub second_large : (FitsRow σ second → ⊥) → PartGives rule σ at first second None
-  second_large large = (there.0, substituted_form σ there.0, there.1, refl, λ q g. large (second_fits σ first second (joined_guards rule σ (substituted_form σ there.0) first.out second.out) g.light))
+-- an instance that is too large gives none
+pub some_large : (rule : Option GuardRule) (σ : Substitution) (at : List ℕ) (first second : RowTree) → HasPart at first.form → (FitsRow σ first × FitsRow σ second → ⊥) → PartGives rule σ at first second None
+some_large rule σ at first second there large =
+    let p = substituted_form σ there.0 in
+    let gs = joined_guards rule σ p first.out second.out in (there.0, p, there.1, refl, λ q g. large (both_fit σ first second gs g.light))

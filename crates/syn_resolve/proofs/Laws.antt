@@ -1,6 +1,7 @@
 -- Each rule gives one row at most.
 use Rattle.std.proofs.Common.{◌≡◌, ℕ, zero, suc, List, Option, None, Some, IfSome, slice_get, sym, ◌∙◌, ap, subst}
 use Rattle.std.specs.Option.{option_map}
+use Rattle.syn_term.specs.Bank.{Extends-refl, Extends-trans}
 use Rattle.syn_term.specs.Symbols.{SymbolTable}
 use Rattle.syn_form.specs.declared.trees.Form.{out-Form}
 use Rattle.syn_form.specs.declared.trees.Form.TheOpen.{Form-F}
@@ -98,3 +99,6 @@ rule_laws = record {
   resolve_one = λ table rule r s ps qs p q is plain_r plain_s. resolve_one table rule is r s plain_r plain_s ps qs p q;
   equal_one = λ table rule r at way s place p q is plain_r plain_s. equal_one table rule is r at way s place plain_r plain_s p q;
 }
+
+-- for the public function whose contract names the laws
+pub ruleset law_rules = (Extends-refl, Extends-trans, rule_laws)

@@ -8,6 +8,8 @@ pub mod Instances
 pub mod BroughtCalls
 pub mod PartsAt
 pub mod SameFigures
+pub mod JoinedRows
+pub mod SidesStill
 pub mod ReflexAnswers
 pub mod Standing
 pub mod Grown
@@ -18,3 +20,5 @@ pub mod JointRows
 pub mod PartsFormed
 pub mod JointAnswers
 pub mod ApartAnswers
+pub mod ReplaceRows
+pub mod ReplaceAnswers

@@ -6,20 +6,18 @@ use Rattle.std.proofs.lemmas.List.Elements.{All-append, All-contains, Contains-a
 use Rattle.syn_term.specs.declared.sorts.Var.{Var}
 use Rattle.syn_term.specs.Symbols.{IsSort, SymbolTable}
 use Rattle.syn_term.specs.Terms.{TermTree, bare, nowhere}
-use Rattle.syn_form.specs.Substitutions.{KeepsSorts, Substitution, UnifiesForms, image, substituted, substituted_form}
+use Rattle.syn_form.specs.Substitutions.{KeepsSorts, Substitution, UnifiesForms, image, substituted}
 use Rattle.syn_form.specs.Trees.{FormTree, bare_form, form_vars, out_vars}
 use Rattle.syn_row.specs.Results.{AreApart}
 use Rattle.syn_row.specs.Rows.{IsPlain, RowTree}
-use Rattle.syn_row.proofs.Agreeing.{AreAmong, forms_agree}
+use Rattle.syn_row.proofs.Agreeing.{AreAmong}
 use Rattle.syn_row.proofs.Alike.{renamed_form}
-use Rattle.syn_row.proofs.Changes.{changes_substituted}
-use Rattle.syn_row.proofs.Leading.{Moving, form-none, partner}
+use Rattle.syn_row.proofs.Leading.{AreMoved, Moving, TreesOf, Unifying, form_trees, partner}
 use Rattle.syn_row.proofs.Pairs.{first_moved, pair_known, pair_moving, pair_over, pair_vars, second_moved}
 use Rattle.syn_row.proofs.Passed.{IsMoved}
 use Rattle.syn_row.proofs.PartsMoved.{parts_among, parts_at_both}
-use Rattle.syn_row.proofs.Renaming.{image_by, renaming_by, substituted-Var, substituted-blind}
+use Rattle.syn_row.proofs.Renaming.{image_by, renaming_by, substituted-Var}
 use Rattle.syn_row.proofs.Taking.{Fits, image_sort, image_sorted, image_taking, keeps_taking, taking}
-use Rattle.syn_row.proofs.Telling.{form-along}
 use Rattle.syn_resolve.specs.inner.Standing.{Stand}
 
 module _ (vars : List Var) (over : Var → Var) (τ : Substitution) where
@@ -34,20 +32,19 @@ module _ (vars : List Var) (over : Var → Var) (τ : Substitution) where
       ap bare (substituted-Var both nowhere v ∙ image_taking (λ v. image τ (over v)) vars v c)
       ∙ sym (ap (λ (z : TermTree). bare (substituted τ z)) (image_by over vars v c) ∙ ap bare (substituted-Var τ nowhere (over v)))
 
-  abbrev along : (ρ : Substitution) (a b : FormTree) → bare_form a ≡ bare_form b → bare_form (substituted_form ρ a) ≡ bare_form (substituted_form ρ b)
-  along ρ = form-along (substituted_form ρ) (substituted ρ) (changes_substituted ρ) (substituted-blind ρ)
+  module _ {A : Type 0} (k : TreesOf A) where
+    -- what both do to a tree, the other unifier does to its partner
+    partners : (x y : A) → AreAmong (k.vars_of x) vars → k.bare_of (k.put way_over x) ≡ k.bare_of y → k.bare_of (k.put both x) ≡ k.bare_of (k.put τ y)
+    partners x y h e =
+        k.along both x (k.put [] x) (sym (k.none x))
+        ∙ (k.agree [] both way_over τ vars same_way x h ∙ k.along τ (k.put way_over x) y e)
 
-  partners : (x y : FormTree) → AreAmong (form_vars x) vars → renamed_form way_over x ≡ bare_form y → bare_form (substituted_form both x) ≡ bare_form (substituted_form τ y)
-  partners x y h e =
-      along both x (substituted_form [] x) (sym (form-none x))
-      ∙ (forms_agree [] both way_over τ vars same_way x h ∙ along τ (substituted_form way_over x) y e)
-
-  pub both_unify : (xs ys : List FormTree) → All (λ f. AreAmong (form_vars f) vars) xs → map (renamed_form way_over) xs ≡ map bare_form ys → UnifiesForms ys τ → UnifiesForms xs both
-  both_unify xs ys among moved unifies f g c d =
-      let p = partner (renamed_form way_over) bare_form xs ys moved f c in
-      let q = partner (renamed_form way_over) bare_form xs ys moved g d in
-      partners f p.0 (All-contains (λ f. AreAmong (form_vars f) vars) xs f among c) p.2
-      ∙ (unifies p.0 q.0 p.1 q.1 ∙ sym (partners g q.0 (All-contains (λ f. AreAmong (form_vars f) vars) xs g among d) q.2))
+    pub both_unify : (xs ys : List A) → All (λ x. AreAmong (k.vars_of x) vars) xs → AreMoved k way_over xs ys → Unifying k ys τ → Unifying k xs both
+    both_unify xs ys among moved unifies s t c d =
+        let p = partner (λ x. k.bare_of (k.put way_over x)) k.bare_of xs ys moved s c in
+        let q = partner (λ x. k.bare_of (k.put way_over x)) k.bare_of xs ys moved t d in
+        partners s p.0 (All-contains (λ x. AreAmong (k.vars_of x) vars) xs s among c) p.2
+        ∙ (unifies p.0 q.0 p.1 q.1 ∙ sym (partners t q.0 (All-contains (λ x. AreAmong (k.vars_of x) vars) xs t among d) q.2))
 
   pub both_keeps : (table : SymbolTable) → ((v : Var) → Contains vars v → IsSort table v.sort) → Moving vars over → KeepsSorts table τ → KeepsSorts table both
   both_keeps table sorted m keeps = keeps_taking table (λ v. image τ (over v)) vars (λ k d lt. fits (get_or vars k d) (Contains-get_or vars k d lt))
@@ -95,5 +92,5 @@ module _ (table : SymbolTable) (r s : RowTree) (plain_r : IsPlain table r) (plai
   moved_unifier τ keeps unifies = (
     both vars over τ,
     both_keeps vars over τ table (pair_known table r s first second a plain_r plain_s) (pair_moving r s first second first' second' a b) keeps,
-    both_unify vars over τ (fs ++ gs) (fs' ++ gs') among parts unifies,
+    both_unify vars over τ form_trees (fs ++ gs) (fs' ++ gs') among parts unifies,
   )

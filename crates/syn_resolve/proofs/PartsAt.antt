@@ -87,11 +87,14 @@ module _ (P : TermTree → Type 0) (down : (p : Place) (f : SymId) (args : List 
       let k : All P (s ∷ t ∷ []) = subst (All P) (form_terms-Equal s t) (have_at ks (formula f) (formula (form.Equal s t)) e h) in
       (All-head P s (t ∷ []) k, All-head P t [] (All-tail P s (t ∷ []) k))
 
+-- the terms of a formed formula are sorted
+pub terms_sorted : (table : SymbolTable) (f : FormTree) → IsFormed table f → All (IsSorted table) (form_terms f)
+terms_sorted table f h = All-left (IsSorted table) (form_terms f) [] (forms_sorted table (f ∷ []) (All-cons (IsFormed table) f [] h (All-nil (IsFormed table))))
+
 -- the sides of an equality in a formed formula are sorted, and they belong to the bank of the formula's terms
 pub sides_sorted : (table : SymbolTable) (ks : List ℕ) (f : FormTree) (s t : TermTree) → at_position ks (formula f) ≡ Some (formula (form.Equal s t)) → IsFormed table f → IsSorted table s × IsSorted table t
 sides_sorted table ks f s t e h =
-    sides_have (IsSorted table) (parts-App (SortedNode table)) ks f s t e
-    (All-left (IsSorted table) (form_terms f) [] (forms_sorted table (f ∷ []) (All-cons (IsFormed table) f [] h (All-nil (IsFormed table)))))
+    sides_have (IsSorted table) (parts-App (SortedNode table)) ks f s t e (terms_sorted table f h)
 
 pub sides_belong : (bank : Kept) (ks : List ℕ) (f : FormTree) (s t : TermTree) → at_position ks (formula f) ≡ Some (formula (form.Equal s t)) → All (Belongs bank) (form_terms f) → Belongs bank s × Belongs bank t
 sides_belong bank = sides_have (Belongs bank) (λ p g args h. own_args bank (node_view.App p g args) p g args args refl refl h)
@@ -99,3 +102,10 @@ sides_belong bank = sides_have (Belongs bank) (λ p g args h. own_args bank (nod
 -- so do the terms of a formula there
 pub form_belongs : (bank : Kept) (ks : List ℕ) (f h : FormTree) → at_position ks (formula f) ≡ Some (formula h) → All (Belongs bank) (form_terms f) → All (Belongs bank) (form_terms h)
 form_belongs bank ks f h = have_at (Belongs bank) (λ p g args h. own_args bank (node_view.App p g args) p g args args refl refl h) ks (formula f) (formula h)
+
+-- and a term there
+pub term_sorted : (table : SymbolTable) (ks : List ℕ) (f : FormTree) (t : TermTree) → at_position ks (formula f) ≡ Some (term t) → IsFormed table f → IsSorted table t
+term_sorted table ks f t e h = have_at (IsSorted table) (parts-App (SortedNode table)) ks (formula f) (term t) e (terms_sorted table f h)
+
+pub term_belongs : (bank : Kept) (ks : List ℕ) (f : FormTree) (t : TermTree) → at_position ks (formula f) ≡ Some (term t) → All (Belongs bank) (form_terms f) → Belongs bank t
+term_belongs bank ks f t = have_at (Belongs bank) (λ p g args h. own_args bank (node_view.App p g args) p g args args refl refl h) ks (formula f) (term t)

@@ -52,7 +52,7 @@ module _ (F : FormTree → FormTree) (g : TermTree → TermTree) (c : Changes F 
     at_implies = λ a b h k. ap out-Form (c.at_implies a b) ∙ (out-Implies (F a) (F b) ∙ sym (ap layer (out-Implies a b)));
   }
 
-  abbrev changed : TreePart → TreePart
+  abbrev pub changed : TreePart → TreePart
   changed p = changed_part F g p
 
   terms_each : (ts : List TermTree) → map term (map g ts) ≡ map changed (map term ts)
@@ -73,7 +73,7 @@ module _ (F : FormTree → FormTree) (g : TermTree → TermTree) (c : Changes F 
   layer_parts (Form-F.Or all) = forms_each all
   layer_parts (Form-F.Implies a b) = refl
 
-  part_changed : (f : FormTree) (k : ℕ) → part_at (formula (F f)) k ≡ option_map changed (part_at (formula f) k)
+  pub part_changed : (f : FormTree) (k : ℕ) → part_at (formula (F f)) k ≡ option_map changed (part_at (formula f) k)
   part_changed f zero = refl
   part_changed f (suc k) = ap (λ (z : List TreePart). slice_get z k) (ap form_parts_layer (out_changed f) ∙ layer_parts (out-Form f)) ∙ get_map changed (parts_of (formula f)) k
 

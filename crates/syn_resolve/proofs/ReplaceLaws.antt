@@ -1,8 +1,8 @@
 -- The choices of equality replacement, that the figures of two choices are alike, and that the rule gives one row at most.
-use Rattle.std.proofs.Common.{◌≡◌, ℕ, false, List, [], ◌∷◌, Option, Some, All, Contains, IfSome, ◌∙◌, ap}
+use Rattle.std.proofs.Common.{◌≡◌, ℕ, false, List, [], ◌∷◌, Option, Some, All, Contains, IfSome, map, ◌∙◌, ap}
 use Rattle.std.specs.List.{flat_map}
 use Rattle.std.specs.Option.{option_map, option_map_or}
-use Rattle.std.proofs.lemmas.List.Elements.{Contains-append_cases, Contains-append_left, Contains-append_right}
+use Rattle.std.proofs.lemmas.List.Elements.{All-head, All-tail, Contains-append_cases, Contains-append_left}
 use Rattle.std.proofs.Common.{◌⊎◌, inl, inr}
 use Rattle.syn_term.specs.declared.sorts.Var.{Var}
 use Rattle.syn_term.specs.Symbols.{SymbolTable}
@@ -22,7 +22,7 @@ use Rattle.syn_row.specs.Results.{AreApart, Figure, Gives, joined_form, joined_s
 use Rattle.syn_row.specs.Rows.{IsPlain, RowTree, bare_row}
 use Rattle.syn_row.proofs.Renaming.{Within, renaming_by}
 use Rattle.syn_resolve.specs.Replacement.{EqualGives, looked_for, put_there, replaced}
-use Rattle.syn_row.proofs.Agreeing.{AreAmong}
+use Rattle.syn_row.proofs.Agreeing.{AreAmong, within_each}
 use Rattle.syn_row.proofs.Alike.{AreAlike, alike_gives, alike_one, renamed_form}
 use Rattle.syn_row.proofs.General.{Passes, image_vars}
 use Rattle.syn_row.proofs.Leading.{Moving, term_trees, unifiers_pass}
@@ -31,8 +31,8 @@ use Rattle.syn_row.proofs.PartsMoved.{form_at_both, form_idle, row_idle, sides_a
 use Rattle.syn_row.proofs.Passed.{IsMoved, chosen_passed, form_passed, instance_inside, joined_passed, placed_passed, replaced_passed, term_passed}
 use Rattle.syn_row.proofs.Still.{Related, idle, part_among, related_alike, term_part_among}
 
--- what equality replacement chooses: rows kept apart, and a most general unifier of the side and the term
-pub record ReplaceChoice (table : SymbolTable) (r : RowTree) (at : List ℕ) (way : Dir) (s : RowTree) (place : List ℕ) : Type 0 where
+-- rows kept apart, an equality of the first, and a term of the second
+pub record ReplaceSite (r : RowTree) (at : List ℕ) (s : RowTree) (place : List ℕ) : Type 0 where
   pub first : RowTree
   pub second : RowTree
   pub apart : AreApart r s first second
@@ -41,16 +41,97 @@ pub record ReplaceChoice (table : SymbolTable) (r : RowTree) (at : List ℕ) (wa
   pub there : at_position at (formula first.form) ≡ Some (formula (form.Equal left right))
   pub old : TermTree
   pub old_there : at_position place (formula second.form) ≡ Some (term old)
+
+-- the side that is looked for, and the term
+abbrev pub site_terms : (r : RowTree) (at : List ℕ) (way : Dir) (s : RowTree) (place : List ℕ) → ReplaceSite r at s place → List TermTree
+site_terms r at way s place a = looked_for way a.left a.right ∷ a.old ∷ []
+
+-- what equality replacement chooses: these, and a most general unifier of the side and the term
+pub record ReplaceChoice (table : SymbolTable) (r : RowTree) (at : List ℕ) (way : Dir) (s : RowTree) (place : List ℕ) : Type 0 where
+  pub site : ReplaceSite r at s place
   pub unifier : Substitution
-  pub general : IsUnifierOfTerms table (looked_for way left right ∷ old ∷ []) unifier
+  pub general : IsUnifierOfTerms table (looked_for way site.left site.right ∷ site.old ∷ []) unifier
 
 abbrev pub replace_figure : (table : SymbolTable) (rule : Option GuardRule) (r : RowTree) (at : List ℕ) (way : Dir) (s : RowTree) (place : List ℕ) → ReplaceChoice table r at way s place → Figure
-replace_figure table rule r at way s place c = replaced rule c.unifier (substituted_form c.unifier (form.Equal c.left c.right)) place (substituted c.unifier (put_there way c.left c.right)) c.first c.second
+replace_figure table rule r at way s place c = replaced rule c.unifier (substituted_form c.unifier (form.Equal c.site.left c.site.right)) place (substituted c.unifier (put_there way c.site.left c.site.right)) c.site.first c.site.second
 
 -- what holds of both sides holds of the one that is looked for, and of the other
-either_side : (P : TermTree → TermTree → Type 0) (way : Dir) (s t s' t' : TermTree) → P s s' → P t t' → P (looked_for way s t) (looked_for way s' t') × P (put_there way s t) (put_there way s' t')
+pub either_side : (P : TermTree → TermTree → Type 0) (way : Dir) (s t s' t' : TermTree) → P s s' → P t t' → P (looked_for way s t) (looked_for way s' t') × P (put_there way s t) (put_there way s' t')
 either_side P dir.Lr s t s' t' a b = (a, b)
 either_side P dir.Rl s t s' t' a b = (b, a)
+
+-- the side that is looked for and the term have the variables of the two formulas alone, and so has the side that is put in
+module _ (vars : List Var) (at : List ℕ) (way : Dir) (place : List ℕ) (f g : FormTree) (left right old : TermTree) (there : at_position at (formula f) ≡ Some (formula (form.Equal left right))) (old_there : at_position place (formula g) ≡ Some (term old)) (hf : AreAmong (form_vars f) vars) (hg : AreAmong (form_vars g) vars) where
+  sides : All (Within vars) (left ∷ right ∷ [])
+  sides = within_each vars (left ∷ right ∷ []) (sides_among vars (λ v. v) left right (part_among vars at f (form.Equal left right) there hf))
+
+  pub side_among : Within vars (looked_for way left right) × Within vars (put_there way left right)
+  side_among = either_side (λ t u. Within vars t) way left right left right (All-head (Within vars) left (right ∷ []) sides) (All-head (Within vars) right [] (All-tail (Within vars) left (right ∷ []) sides))
+
+  pub old_within : Within vars old
+  old_within = term_part_among vars place g old old_there hg
+
+  pub terms_among : AreAmong (flat_map term_vars (looked_for way left right ∷ old ∷ [])) vars
+  terms_among v c = go (Contains-append_cases (term_vars (looked_for way left right)) (flat_map term_vars (old ∷ [])) v c)
+    where
+      last : Contains (term_vars old) v ⊎ Contains [] v → Contains vars v
+      last (inl d) = old_within v d
+      last (inr d) = absurd (none_in_nil v d)
+
+      go : Contains (term_vars (looked_for way left right)) v ⊎ Contains (flat_map term_vars (old ∷ [])) v → Contains vars v
+      go (inl d) = side_among.0 v d
+      go (inr d) = last (Contains-append_cases (term_vars old) [] v d)
+
+-- two sites of the same rows
+module _ (r : RowTree) (at : List ℕ) (way : Dir) (s : RowTree) (place : List ℕ) (a b : ReplaceSite r at s place) where
+  abbrev pub vars : List Var
+  vars = pair_vars a.first a.second
+
+  abbrev pub over : Var → Var
+  over = pair_over r s a.first a.second b.first b.second a.apart b.apart
+
+  abbrev pub moved : Substitution
+  moved = renaming_by over vars
+
+  pub moving : Moving vars over
+  moving = pair_moving r s a.first a.second b.first b.second a.apart b.apart
+
+  pub one_moved : IsMoved vars over a.first b.first
+  one_moved = first_moved r s a.first a.second b.first b.second a.apart b.apart
+
+  pub other_moved : IsMoved vars over a.second b.second
+  other_moved = second_moved r s a.first a.second b.first b.second a.apart b.apart
+
+  row_form_among : (x y : RowTree) → IsMoved vars over x y → AreAmong (form_vars x.form) vars
+  row_form_among x y h v c = h.among v (Contains-append_left (form_vars x.form) (option_map_or out_vars x.out []) v c)
+
+  abbrev equal : FormTree
+  equal = form.Equal a.left a.right
+
+  pub equal_among : AreAmong (form_vars equal) vars
+  equal_among = part_among vars at a.first.form equal a.there (row_form_among a.first b.first one_moved)
+
+  pub equal_moved : renamed_form moved equal ≡ bare_form (form.Equal b.left b.right)
+  equal_moved = form_at_both vars over at a.first.form b.first.form equal (form.Equal b.left b.right) (ap (λ (z : RowTree). z.form) one_moved.is) a.there b.there
+
+  both_moved : (bare (substituted moved a.left) ≡ bare b.left) × (bare (substituted moved a.right) ≡ bare b.right)
+  both_moved = sides_moved vars over a.left a.right b.left b.right equal_moved
+
+  pub chosen_moved : (bare (substituted moved (looked_for way a.left a.right)) ≡ bare (looked_for way b.left b.right)) × (bare (substituted moved (put_there way a.left a.right)) ≡ bare (put_there way b.left b.right))
+  chosen_moved = either_side (λ t u. bare (substituted moved t) ≡ bare u) way a.left a.right b.left b.right both_moved.0 both_moved.1
+
+  pub chosen_among : AreAmong (term_vars (looked_for way a.left a.right)) vars × AreAmong (term_vars (put_there way a.left a.right)) vars
+  chosen_among = side_among vars at way place a.first.form a.second.form a.left a.right a.old a.there a.old_there (row_form_among a.first b.first one_moved) (row_form_among a.second b.second other_moved)
+
+  pub old_moved : bare (substituted moved a.old) ≡ bare b.old
+  old_moved = term_at_both vars over place a.second.form b.second.form a.old b.old (ap (λ (z : RowTree). z.form) other_moved.is) a.old_there b.old_there
+
+  pub pair_among : AreAmong (flat_map term_vars (site_terms r at way s place a)) vars
+  pair_among = terms_among vars at way place a.first.form a.second.form a.left a.right a.old a.there a.old_there (row_form_among a.first b.first one_moved) (row_form_among a.second b.second other_moved)
+
+  -- the terms of the one site, moved, are those of the other
+  pub pair_moved : map (λ t. bare (substituted moved t)) (site_terms r at way s place a) ≡ map bare (site_terms r at way s place b)
+  pair_moved = ap (λ (z : TermTree). z ∷ bare (substituted moved a.old) ∷ []) chosen_moved.0 ∙ ap (λ (z : TermTree). bare (looked_for way b.left b.right) ∷ z ∷ []) old_moved
 
 module _ (table : SymbolTable) (rule : Option GuardRule) (is : IfSome rule (IsGuardRule table)) where
   replace_related : (vars : List Var) (σ τ : Substitution) (over : Var → Var) (w : Passes vars σ τ over) (m : Moving vars over) (first first' second second' : RowTree) → IsMoved vars over first first' → IsMoved vars over second second' → (e e' : FormTree) → All (Within (image_vars σ vars)) (form_terms e) → renamed_form w.renaming e ≡ bare_form e' → (place : List ℕ) (new new' : TermTree) → bare (substituted w.renaming new) ≡ bare new' → Related w.renaming (replaced rule σ e place new first second) (replaced rule τ e' place new' first' second')
@@ -78,106 +159,52 @@ module _ (table : SymbolTable) (rule : Option GuardRule) (is : IfSome rule (IsGu
       }
 
   module _ (r : RowTree) (at : List ℕ) (way : Dir) (s : RowTree) (place : List ℕ) (plain_r : IsPlain table r) (plain_s : IsPlain table s) where
-    module _ (a b : ReplaceChoice table r at way s place) where
-      abbrev vars : List Var
-      vars = pair_vars a.first a.second
+    module _ (c d : ReplaceChoice table r at way s place) where
+      abbrev a : ReplaceSite r at s place
+      a = c.site
 
-      abbrev over : Var → Var
-      over = pair_over r s a.first a.second b.first b.second a.apart b.apart
+      abbrev b : ReplaceSite r at s place
+      b = d.site
 
-      abbrev moved : Substitution
-      moved = renaming_by over vars
+      abbrev named : List Var
+      named = vars r at way s place a b
 
-      moving : Moving vars over
-      moving = pair_moving r s a.first a.second b.first b.second a.apart b.apart
+      abbrev passed : Var → Var
+      passed = over r at way s place a b
 
-      one_moved : IsMoved vars over a.first b.first
-      one_moved = first_moved r s a.first a.second b.first b.second a.apart b.apart
+      abbrev equality : FormTree
+      equality = form.Equal a.left a.right
 
-      other_moved : IsMoved vars over a.second b.second
-      other_moved = second_moved r s a.first a.second b.first b.second a.apart b.apart
+      abbrev put : TermTree
+      put = put_there way a.left a.right
 
-      row_form_among : (x y : RowTree) → IsMoved vars over x y → AreAmong (form_vars x.form) vars
-      row_form_among x y h v c = h.among v (Contains-append_left (form_vars x.form) (option_map_or out_vars x.out []) v c)
+      replace_passes : Passes named c.unifier d.unifier passed
+      replace_passes = unifiers_pass term_trees named passed (moving r at way s place a b) table (pair_known table r s a.first a.second a.apart plain_r plain_s) (site_terms r at way s place a) (site_terms r at way s place b) (pair_among r at way s place a b) (pair_moved r at way s place a b) c.unifier d.unifier c.general d.general
 
-      abbrev equal : FormTree
-      equal = form.Equal a.left a.right
+      inside : All (Within (image_vars c.unifier named)) (form_terms (substituted_form c.unifier equality))
+      inside = instance_inside named c.unifier d.unifier passed replace_passes (moving r at way s place a b) equality (equal_among r at way s place a b)
 
-      equal_among : AreAmong (form_vars equal) vars
-      equal_among = part_among vars at a.first.form equal a.there (row_form_among a.first b.first one_moved)
-
-      equal_moved : renamed_form moved equal ≡ bare_form (form.Equal b.left b.right)
-      equal_moved = form_at_both vars over at a.first.form b.first.form equal (form.Equal b.left b.right) (ap (λ (z : RowTree). z.form) one_moved.is) a.there b.there
-
-      both_moved : (bare (substituted moved a.left) ≡ bare b.left) × (bare (substituted moved a.right) ≡ bare b.right)
-      both_moved = sides_moved vars over a.left a.right b.left b.right equal_moved
-
-      chosen_moved : (bare (substituted moved (looked_for way a.left a.right)) ≡ bare (looked_for way b.left b.right)) × (bare (substituted moved (put_there way a.left a.right)) ≡ bare (put_there way b.left b.right))
-      chosen_moved = either_side (λ t u. bare (substituted moved t) ≡ bare u) way a.left a.right b.left b.right both_moved.0 both_moved.1
-
-      left_among : AreAmong (term_vars a.left) vars
-      left_among v c = sides_among vars over a.left a.right equal_among v (Contains-append_left (term_vars a.left) (flat_map term_vars (a.right ∷ [])) v c)
-
-      right_among : AreAmong (term_vars a.right) vars
-      right_among v c = sides_among vars over a.left a.right equal_among v (Contains-append_right (term_vars a.left) (flat_map term_vars (a.right ∷ [])) v (Contains-append_left (term_vars a.right) [] v c))
-
-      chosen_among : AreAmong (term_vars (looked_for way a.left a.right)) vars × AreAmong (term_vars (put_there way a.left a.right)) vars
-      chosen_among = either_side (λ t u. AreAmong (term_vars t) vars) way a.left a.right a.left a.right left_among right_among
-
-      old_among : AreAmong (term_vars a.old) vars
-      old_among = term_part_among vars place a.second.form a.old a.old_there (row_form_among a.second b.second other_moved)
-
-      old_moved : bare (substituted moved a.old) ≡ bare b.old
-      old_moved = term_at_both vars over place a.second.form b.second.form a.old b.old (ap (λ (z : RowTree). z.form) other_moved.is) a.old_there b.old_there
-
-      pair_among : AreAmong (flat_map term_vars (looked_for way a.left a.right ∷ a.old ∷ [])) vars
-      pair_among v c = go (Contains-append_cases (term_vars (looked_for way a.left a.right)) (flat_map term_vars (a.old ∷ [])) v c)
-        where
-          last : Contains (term_vars a.old) v ⊎ Contains [] v → Contains vars v
-          last (inl d) = old_among v d
-          last (inr d) = absurd (none_in_nil v d)
-
-          go : Contains (term_vars (looked_for way a.left a.right)) v ⊎ Contains (flat_map term_vars (a.old ∷ [])) v → Contains vars v
-          go (inl d) = chosen_among.0 v d
-          go (inr d) = last (Contains-append_cases (term_vars a.old) [] v d)
-
-      replace_passes : Passes vars a.unifier b.unifier over
-      replace_passes = unifiers_pass term_trees vars over moving table (pair_known table r s a.first a.second a.apart plain_r plain_s) (looked_for way a.left a.right ∷ a.old ∷ []) (looked_for way b.left b.right ∷ b.old ∷ []) pair_among
-          (ap (λ (z : TermTree). z ∷ bare (substituted moved a.old) ∷ []) chosen_moved.0 ∙ ap (λ (z : TermTree). bare (looked_for way b.left b.right) ∷ z ∷ []) old_moved)
-          a.unifier b.unifier a.general b.general
-
-      inside : All (Within (image_vars a.unifier vars)) (form_terms (substituted_form a.unifier equal))
-      inside = instance_inside vars a.unifier b.unifier over replace_passes moving equal equal_among
-
-      own : (u : Passes vars a.unifier a.unifier (λ v. v)) → Related u.renaming (replace_figure table rule r at way s place a) (replace_figure table rule r at way s place a)
-      own u = replace_related vars a.unifier a.unifier (λ v. v) u (idle vars) a.first a.first a.second a.second (row_idle vars a.first one_moved.among) (row_idle vars a.second other_moved.among) (substituted_form a.unifier equal) (substituted_form a.unifier equal) inside
-          (form_passed vars a.unifier a.unifier (λ v. v) u (idle vars) equal equal equal_among (form_idle vars equal equal_among))
-          place (substituted a.unifier (put_there way a.left a.right)) (substituted a.unifier (put_there way a.left a.right))
-          (term_passed vars a.unifier a.unifier (λ v. v) u (idle vars) (put_there way a.left a.right) (put_there way a.left a.right) chosen_among.1 (term_idle vars (put_there way a.left a.right) chosen_among.1))
+      own : (u : Passes named c.unifier c.unifier (λ v. v)) → Related u.renaming (replace_figure table rule r at way s place c) (replace_figure table rule r at way s place c)
+      own u = replace_related named c.unifier c.unifier (λ v. v) u (idle named) a.first a.first a.second a.second (row_idle named a.first (one_moved r at way s place a b).among) (row_idle named a.second (other_moved r at way s place a b).among) (substituted_form c.unifier equality) (substituted_form c.unifier equality) inside
+          (form_passed named c.unifier c.unifier (λ v. v) u (idle named) equality equality (equal_among r at way s place a b) (form_idle named equality (equal_among r at way s place a b)))
+          place (substituted c.unifier put) (substituted c.unifier put)
+          (term_passed named c.unifier c.unifier (λ v. v) u (idle named) put put (chosen_among r at way s place a b).1 (term_idle named put (chosen_among r at way s place a b).1))
 
       -- the figures of two choices of equality replacement are alike
-      pub replace_alike : AreAlike (replace_figure table rule r at way s place a) (replace_figure table rule r at way s place b)
-      replace_alike = related_alike vars a.unifier b.unifier over replace_passes (replace_figure table rule r at way s place a) (replace_figure table rule r at way s place b)
-          (replace_related vars a.unifier b.unifier over replace_passes moving a.first b.first a.second b.second one_moved other_moved (substituted_form a.unifier equal) (substituted_form b.unifier (form.Equal b.left b.right)) inside
-          (form_passed vars a.unifier b.unifier over replace_passes moving equal (form.Equal b.left b.right) equal_among equal_moved)
-          place (substituted a.unifier (put_there way a.left a.right)) (substituted b.unifier (put_there way b.left b.right))
-          (term_passed vars a.unifier b.unifier over replace_passes moving (put_there way a.left a.right) (put_there way b.left b.right) chosen_among.1 chosen_moved.1))
+      pub replace_alike : AreAlike (replace_figure table rule r at way s place c) (replace_figure table rule r at way s place d)
+      replace_alike = related_alike named c.unifier d.unifier passed replace_passes (replace_figure table rule r at way s place c) (replace_figure table rule r at way s place d)
+          (replace_related named c.unifier d.unifier passed replace_passes (moving r at way s place a b) a.first b.first a.second b.second (one_moved r at way s place a b) (other_moved r at way s place a b) (substituted_form c.unifier equality) (substituted_form d.unifier (form.Equal b.left b.right)) inside
+          (form_passed named c.unifier d.unifier passed replace_passes (moving r at way s place a b) equality (form.Equal b.left b.right) (equal_among r at way s place a b) (equal_moved r at way s place a b))
+          place (substituted c.unifier put) (substituted d.unifier (put_there way b.left b.right))
+          (term_passed named c.unifier d.unifier passed replace_passes (moving r at way s place a b) put (put_there way b.left b.right) (chosen_among r at way s place a b).1 (chosen_moved r at way s place a b).1))
           own
 
     -- what the rule gives comes of a choice
+    abbrev pub given_site : (q : RowTree) → EqualGives table rule r at way s place q → ReplaceSite r at s place
+    given_site q g = record { first = g.first; second = g.second; apart = g.apart; left = g.left; right = g.right; there = g.there; old = g.old; old_there = g.old_there }
+
     abbrev pub replace_choice : (q : RowTree) → EqualGives table rule r at way s place q → ReplaceChoice table r at way s place
-    replace_choice q g = record {
-      first = g.first;
-      second = g.second;
-      apart = g.apart;
-      left = g.left;
-      right = g.right;
-      there = g.there;
-      old = g.old;
-      old_there = g.old_there;
-      unifier = g.unifier;
-      general = g.general;
-    }
+    replace_choice q g = record { site = given_site q g; unifier = g.unifier; general = g.general }
 
     pub equal_one : (p q : RowTree) → EqualGives table rule r at way s place p → EqualGives table rule r at way s place q → bare_row p ≡ bare_row q
     equal_one p q a b = alike_one (replace_figure table rule r at way s place (replace_choice p a)) (replace_figure table rule r at way s place (replace_choice q b)) p q (replace_alike (replace_choice p a) (replace_choice q b)) a.gives b.gives

@@ -3,3 +3,4 @@ pub mod Instances
 pub mod Reflexing
 pub mod Standing
 pub mod Resolving
+pub mod Replacing

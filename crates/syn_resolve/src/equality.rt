@@ -8,7 +8,7 @@ use syn_form::{Form, Part};
 use syn_term::{Pos, Term};
 
 /// The two sides, where the formula is an equality.
-fn sides_of(form: &Form) -> Option<(&Term, &Term)>
+pub(crate) fn sides_of(form: &Form) -> Option<(&Term, &Term)>
     ensures { MatchOption result ((left right : TermTree) → form.now ≡ variants.Equal left right → ⊥) (λ p. form.now ≡ variants.Equal p.0.now p.1.now) }
 {
     match form {

@@ -8,6 +8,7 @@ ghost use Rattle.syn_form.specs.Trees.{bare_out, out_terms};
 ghost use Rattle.syn_row.specs.Rows.{IsPlain, bare_row, row_terms, substituted_row};
 ghost use Rattle.syn_unify.specs.Bindings.{BindsOwn};
 ghost use Rattle.syn_resolve.specs.inner.Instances.{FitsOutput, FitsRow};
+ghost use Rattle.syn_resolve.specs.inner.Resolving.{IsInstance, IsPair};
 
 use std::alloc::Global;
 use syn_form::Out;
@@ -78,6 +79,43 @@ pub(crate) fn instance(
         }
         Err(error) => {
             drop(form);
+            Err(error)
+        }
+    }
+}
+
+/// The instances of both rows; None only where one of the two is too large for a step.
+#[tactic(auto, using(crate::proofs::Growth::growth))]
+pub(crate) fn both_instances(
+    alloc: Global,
+    bank: &mut Bank,
+    syms: &Symbols,
+    s: &Subst,
+    first: &Row,
+    second: &Row,
+) -> Result<Option<(Row, Row)>, NoMemory>
+    requires keeps { KeepsSorts syms.now s.now }
+    requires own { BindsOwn bank.old s.now }
+    requires pair { IsPair syms.now first.now second.now }
+    requires first_own { All (Belongs bank.old) (row_terms first.now) }
+    requires second_own { All (Belongs bank.old) (row_terms second.now) }
+    ensures rows { IfOk result (λ o. MatchOption o (FitsRow s.now first.now × FitsRow s.now second.now → ⊥) (λ both. IsInstance syms.now s.now first.now both.0 × IsInstance syms.now s.now second.now both.1)) }
+    ensures extends { Extends bank.old bank.new }
+    ensures belongs { IfOk result (λ o. IfSome o (λ both. All (Belongs bank.new) (row_terms both.0) × All (Belongs bank.new) (row_terms both.1))) }
+{
+    let a = match instance(alloc, bank, syms, s, first) {
+        Ok(Some(a)) => a,
+        Ok(None) => return Ok(None),
+        Err(error) => return Err(error),
+    };
+    match instance(alloc, bank, syms, s, second) {
+        Ok(Some(b)) => Ok(Some((a, b))),
+        Ok(None) => {
+            drop(a);
+            Ok(None)
+        }
+        Err(error) => {
+            drop(a);
             Err(error)
         }
     }

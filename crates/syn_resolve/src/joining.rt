@@ -1,5 +1,5 @@
-// The row that comes of two instances with a part of both replaced.
-ghost use Rattle.std.specs.Prelude.{◌≡◌, ◌∷◌, ◌++◌, [], true, false, All, IfOk, IfSome, OnOk};
+// The row that comes of two instances, with a part of the first replaced.
+ghost use Rattle.std.specs.Prelude.{◌≡◌, ◌∷◌, ◌++◌, [], All, IfOk, IfSome, OnOk};
 ghost use Rattle.syn_term.specs.Bank.{Belongs, Extends};
 ghost use Rattle.syn_form.specs.Replacing.{replaced_all};
 ghost use Rattle.syn_form.specs.Same.{OfOneBank};
@@ -7,7 +7,7 @@ ghost use Rattle.syn_form.specs.Trees.{form_terms};
 ghost use Rattle.syn_row.specs.Results as results;
 ghost use Rattle.syn_row.specs.Rows.{IsPlain, IsSimplified, IsWithinRow, row_terms};
 ghost use Rattle.syn_resolve.specs.inner.Reflexing.{FigureGives};
-ghost use Rattle.syn_resolve.specs.inner.Resolving.{figure_of_both, row_of_both};
+ghost use Rattle.syn_resolve.specs.inner.Resolving.{figure_of, figure_of_both, row_joined, row_of_both};
 
 use sqlite_items::Items;
 use std::alloc::Global;
@@ -15,23 +15,24 @@ use syn_form::{Form, Out, replace_all};
 use syn_row::{Row, Weighed, chosen, given, joined, joined_side};
 use syn_term::{Bank, NoMemory, Symbols};
 
-/// The formula of the row: the part replaced by `true` in the first and by `false` in the second, and the guards.
+/// The formula of the row: the part replaced by `true` or by `false` in the first, this formula in place of the second's, and
+/// the guards.
 fn joined_formula(
     alloc: Global,
     p: &Form,
+    by: bool,
     a: &Row,
     b: &Row,
+    g: Form,
     guards: &[Form],
 ) -> Result<Form, NoMemory>
-    requires first { OfOneBank (form_terms (a.now).form ++ form_terms p.now) }
-    requires second { OfOneBank (form_terms (b.now).form ++ form_terms p.now) }
-    ensures { IfOk result (λ f. f ≡ results.joined_form (a.now).side (replaced_all p.now true (a.now).form) (b.now).side (replaced_all p.now false (b.now).form) guards.now) }
+    requires { OfOneBank (form_terms (a.now).form ++ form_terms p.now) }
+    ensures { IfOk result (λ f. f ≡ results.joined_form (a.now).side (replaced_all p.now by (a.now).form) (b.now).side g guards.now) }
 {
-    let f = replace_all(alloc, &a.form, p, true)?;
-    match replace_all(alloc, &b.form, p, false) {
-        Ok(g) => joined(alloc, a.side, f, b.side, g, guards),
+    match replace_all(alloc, &a.form, p, by) {
+        Ok(f) => joined(alloc, a.side, f, b.side, g, guards),
         Err(error) => {
-            drop(f);
+            drop(g);
             Err(error)
         }
     }
@@ -50,28 +51,42 @@ fn output_again(out: &Option<Out>) -> Result<Option<Out>, NoMemory>
     }
 }
 
-/// The output of the row.
-fn chosen_output(alloc: Global, p: &Form, a: &Row, b: &Row) -> Result<Option<Out>, NoMemory>
-    ensures { IfOk result (λ o. o ≡ results.chosen_out p.now (a.now).out (b.now).out) }
+/// The output of the row: `if` the part `then` the one `else` the other, or the one that is there.
+fn chosen_output(
+    alloc: Global,
+    p: &Form,
+    u: &Option<Out>,
+    v: &Option<Out>,
+) -> Result<Option<Out>, NoMemory>
+    ensures { IfOk result (λ o. o ≡ results.chosen_out p.now u.now v.now) }
 {
-    let u = output_again(&a.out)?;
-    match output_again(&b.out) {
-        Ok(v) => chosen(alloc, p, u, v),
+    let first = output_again(u)?;
+    match output_again(v) {
+        Ok(second) => chosen(alloc, p, first, second),
         Err(error) => {
-            drop(u);
+            drop(first);
             Err(error)
         }
     }
 }
 
 /// The row.
-fn joined_row(alloc: Global, p: &Form, a: &Row, b: &Row, guards: &[Form]) -> Result<Row, NoMemory>
-    requires first { OfOneBank (form_terms (a.now).form ++ form_terms p.now) }
-    requires second { OfOneBank (form_terms (b.now).form ++ form_terms p.now) }
-    ensures { IfOk result (λ r. r ≡ row_of_both p.now a.now b.now guards.now) }
+fn joined_row(
+    alloc: Global,
+    p: &Form,
+    by: bool,
+    a: &Row,
+    b: &Row,
+    g: Form,
+    guards: &[Form],
+    u: &Option<Out>,
+    v: &Option<Out>,
+) -> Result<Row, NoMemory>
+    requires { OfOneBank (form_terms (a.now).form ++ form_terms p.now) }
+    ensures { IfOk result (λ r. r ≡ row_joined p.now by a.now b.now g guards.now u.now v.now) }
 {
-    let form = joined_formula(alloc, p, a, b, guards)?;
-    match chosen_output(alloc, p, a, b) {
+    let form = joined_formula(alloc, p, by, a, b, g, guards)?;
+    match chosen_output(alloc, p, u, v) {
         Ok(out) => Ok(Row {
             side: joined_side(a.side, b.side),
             form,
@@ -134,7 +149,7 @@ fn given_under(
 ) -> Result<Option<Row>, NoMemory>
     requires plain { IsPlain syms.now under.now }
     requires own { All (Belongs bank.old) (row_terms under.now) }
-    ensures row { IfOk result (FigureGives (record { forms = (a.now).form ∷ (b.now).form ∷ []; outs = results.out_list (a.now).out ++ results.out_list (b.now).out; guards = guards.now; row = under.now })) }
+    ensures row { IfOk result (FigureGives (figure_of a.now b.now guards.now under.now)) }
     ensures extends { Extends bank.old bank.new }
     ensures belongs { IfOk result (λ o. IfSome o (λ q. All (Belongs bank.new) (row_terms q))) }
     ensures plain { IfOk result (λ o. IfSome o (IsPlain syms.now)) }
@@ -161,7 +176,39 @@ fn given_under(
     }
 }
 
-/// The row that is given of the two and the guards.
+/// The row that is given of the two and the guards, where the part is replaced in the first, this formula stands in place of
+/// the second's, and the output is chosen of these.
+#[tactic(auto, using(crate::proofs::Growth::growth))]
+pub(crate) fn given_with(
+    alloc: Global,
+    bank: &mut Bank,
+    syms: &Symbols,
+    p: &Form,
+    by: bool,
+    a: &Row,
+    b: &Row,
+    g: Form,
+    guards: &[Form],
+    u: &Option<Out>,
+    v: &Option<Out>,
+) -> Result<Option<Row>, NoMemory>
+    requires one { OfOneBank (form_terms (a.now).form ++ form_terms p.now) }
+    requires plain { IsPlain syms.now (row_joined p.now by a.now b.now g guards.now u.now v.now) }
+    requires own { All (Belongs bank.old) (row_terms (row_joined p.now by a.now b.now g guards.now u.now v.now)) }
+    ensures row { IfOk result (FigureGives (figure_of a.now b.now guards.now (row_joined p.now by a.now b.now g guards.now u.now v.now))) }
+    ensures extends { Extends bank.old bank.new }
+    ensures belongs { IfOk result (λ o. IfSome o (λ q. All (Belongs bank.new) (row_terms q))) }
+    ensures plain { IfOk result (λ o. IfSome o (IsPlain syms.now)) }
+    ensures simplified { IfOk result (λ o. IfSome o IsSimplified) }
+    ensures within { IfOk result (λ o. IfSome o IsWithinRow) }
+{
+    let under = joined_row(alloc, p, by, a, b, g, guards, u, v)?;
+    let made = given_under(alloc, bank, syms, a, b, guards, &under);
+    drop(under);
+    made
+}
+
+/// The row that is given of the two and the guards, where the part is `true` in the first and `false` in the second.
 #[tactic(auto, using(crate::proofs::Growth::growth))]
 pub(crate) fn given_of_both(
     alloc: Global,
@@ -183,8 +230,6 @@ pub(crate) fn given_of_both(
     ensures simplified { IfOk result (λ o. IfSome o IsSimplified) }
     ensures within { IfOk result (λ o. IfSome o IsWithinRow) }
 {
-    let under = joined_row(alloc, p, a, b, guards)?;
-    let made = given_under(alloc, bank, syms, a, b, guards, &under);
-    drop(under);
-    made
+    let g = replace_all(alloc, &b.form, p, false)?;
+    given_with(alloc, bank, syms, p, true, a, b, g, guards, &a.out, &b.out)
 }

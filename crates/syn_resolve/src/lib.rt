@@ -1,4 +1,5 @@
-//! Rules on formulas: splitting, duality, reflexivity and nonclausal resolution. Each gives one row at most, which is a law.
+//! Rules on formulas: splitting, duality, reflexivity, nonclausal resolution and equality replacement. Each gives one row at
+//! most, which is a law.
 #![tactic(auto)]
 
 mod brought;

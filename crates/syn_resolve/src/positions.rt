@@ -1,6 +1,7 @@
-// The formulas that stand at positions of a formula.
+// The formulas and the terms that stand at positions of a formula.
 ghost use Rattle.std.specs.Prelude.{◌≡◌, ◌↔◌, ◌≢◌, ◌++◌, [], List, Some, Contains, IfOk, IsTrue, MatchOption};
-ghost use Rattle.syn_form.specs.Positions.{at_position, formula};
+ghost use Rattle.syn_term.specs.Terms.{TermTree};
+ghost use Rattle.syn_form.specs.Positions.{at_position, formula, term};
 ghost use Rattle.syn_form.specs.Trees.{FormTree};
 ghost use Rattle.syn_resolve.specs.Resolution.{AreAt, HasNoRepeats};
 ghost use Rattle.syn_resolve.specs.inner.Standing.{Puts};
@@ -8,7 +9,7 @@ ghost use Rattle.syn_resolve.specs.inner.Standing.{Puts};
 use sqlite_items::Items;
 use std::alloc::Global;
 use syn_form::{Form, Part};
-use syn_term::{NoMemory, Pos};
+use syn_term::{NoMemory, Pos, Term};
 
 /// Whether the two are one position.
 fn is_one_position(p: &Pos, q: &Pos) -> bool
@@ -53,6 +54,16 @@ pub(crate) fn formula_at<'a>(form: &'a Form, p: &Pos) -> Option<&'a Form>
 {
     match form.at(p) {
         Some(Part::F(part)) => Some(part),
+        _ => None,
+    }
+}
+
+/// The term that stands at the position. None exactly where none does.
+pub(crate) fn term_at<'a>(form: &'a Form, p: &Pos) -> Option<&'a Term>
+    ensures { MatchOption result ((t : TermTree) → at_position p.now (formula form.now) ≡ Some (term t) → ⊥) (λ t. at_position p.now (formula form.now) ≡ Some (term t.now)) }
+{
+    match form.at(p) {
+        Some(Part::T(t)) => Some(t),
         _ => None,
     }
 }

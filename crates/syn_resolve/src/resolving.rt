@@ -14,7 +14,7 @@ ghost use Rattle.syn_resolve.specs.Resolution.{ResolveGives, resolved};
 ghost use Rattle.syn_resolve.specs.inner.Reflexing.{AreBoundAmong, FigureGives};
 ghost use Rattle.syn_resolve.specs.inner.Resolving.{ApartGives, HasPart, IsInstance, IsPair, PartGives, UnifiesParts};
 
-use crate::instance::instance;
+use crate::instance::both_instances;
 use crate::joining::given_of_both;
 use crate::joint::joint_guards;
 use crate::parts::parts_unifier;
@@ -104,47 +104,6 @@ fn resolved_at(
     }
 }
 
-/// The same with the instance of the first row made.
-#[tactic(auto, using(crate::proofs::Growth::growth))]
-fn resolved_with(
-    alloc: Global,
-    bank: &mut Bank,
-    syms: &Symbols,
-    rule: Option<&GuardRule>,
-    s: &Subst,
-    at: &Pos,
-    first: &Row,
-    second: &Row,
-    a: &Row,
-) -> Result<Option<Row>, NoMemory>
-    requires rule { IfSome (option_copied rule) (IsGuardRule syms.now) }
-    requires rule_own { IfSome (option_copied rule) (RuleBelongs bank.old) }
-    requires keeps { KeepsSorts syms.now s.now }
-    requires own { BindsOwn bank.old s.now }
-    requires pair { IsPair syms.now first.now second.now }
-    requires among { AreBoundAmong (row_vars first.now ++ row_vars second.now) s.now }
-    requires there { HasPart at.now (first.now).form }
-    requires first_instance { IsInstance syms.now s.now first.now a.now }
-    requires first_own { All (Belongs bank.old) (row_terms a.now) }
-    requires second_own { All (Belongs bank.old) (row_terms second.now) }
-    ensures row { IfOk result (PartGives (option_copied rule.entry) s.now at.now first.now second.now) }
-    ensures extends { Extends bank.old bank.new }
-    ensures belongs { IfOk result (λ o. IfSome o (λ q. All (Belongs bank.new) (row_terms q))) }
-    ensures plain { IfOk result (λ o. IfSome o (IsPlain syms.now)) }
-    ensures simplified { IfOk result (λ o. IfSome o IsSimplified) }
-    ensures within { IfOk result (λ o. IfSome o IsWithinRow) }
-{
-    match instance(alloc, bank, syms, s, second) {
-        Ok(Some(b)) => {
-            let made = resolved_at(alloc, bank, syms, rule, s, at, first, second, a, &b);
-            drop(b);
-            made
-        }
-        Ok(None) => Ok(None),
-        Err(error) => Err(error),
-    }
-}
-
 /// The row that is given by this unifier of parts of both rows, where one of the first row's parts stands at the position.
 #[tactic(auto, using(crate::proofs::Growth::growth))]
 fn resolved_by(
@@ -173,10 +132,11 @@ fn resolved_by(
     ensures simplified { IfOk result (λ o. IfSome o IsSimplified) }
     ensures within { IfOk result (λ o. IfSome o IsWithinRow) }
 {
-    match instance(alloc, bank, syms, s, first) {
-        Ok(Some(a)) => {
-            let made = resolved_with(alloc, bank, syms, rule, s, at, first, second, &a);
+    match both_instances(alloc, bank, syms, s, first, second) {
+        Ok(Some((a, b))) => {
+            let made = resolved_at(alloc, bank, syms, rule, s, at, first, second, &a, &b);
             drop(a);
+            drop(b);
             made
         }
         Ok(None) => Ok(None),

@@ -61,7 +61,7 @@ fn replaced(
     if !is_plain_row(alloc, syms, s)? {
         return Err(Fail::new("the second is not plain"));
     }
-    if !give_one_sort(syms, &r.out, &s.out) {
+    if !give_one_sort(syms, &s.out, &r.out) {
         return Err(Fail::new("outputs of two sorts"));
     }
     Ok(equal(alloc, bank, syms, None, r, at, way, s, place)?)

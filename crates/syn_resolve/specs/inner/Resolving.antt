@@ -1,5 +1,5 @@
 -- For private contracts: how two rows that are kept apart are resolved, and the row that comes of their instances.
-use Rattle.std.specs.Prelude.{◌≡◌, ℕ, true, false, List, [], ◌∷◌, ◌++◌, Option, None, Some, IfSome, All}
+use Rattle.std.specs.Prelude.{◌≡◌, ℕ, Bool, true, false, List, [], ◌∷◌, ◌++◌, Option, None, Some, IfSome, All}
 use Rattle.syn_term.specs.declared.sorts.SymId.{SymId}
 use Rattle.syn_term.specs.Symbols.{SymbolTable}
 use Rattle.syn_term.specs.Terms.{TermTree}
@@ -16,17 +16,26 @@ use Rattle.syn_row.specs.Rows.{IsPlain, RowTree, bare_row, row_vars, substituted
 use Rattle.syn_resolve.specs.Resolution.{AreAt, resolved}
 use Rattle.syn_resolve.specs.inner.Reflexing.{FigureGives, outputs_calls}
 
--- the row that comes of two instances, where their part p is replaced
-abbrev pub row_of_both : FormTree → RowTree → RowTree → List FormTree → RowTree
-row_of_both p a b guards = record {
+-- the row that comes of two instances, where the part p is replaced in the first, g stands in place of the second's formula, and the
+-- output is chosen of u and v
+abbrev pub row_joined : FormTree → Bool → RowTree → RowTree → FormTree → List FormTree → Option OutTree → Option OutTree → RowTree
+row_joined p by a b g guards u v = record {
   side = joined_side a.side b.side;
-  form = joined_form a.side (replaced_all p true a.form) b.side (replaced_all p false b.form) guards;
-  out = chosen_out p a.out b.out;
+  form = joined_form a.side (replaced_all p by a.form) b.side g guards;
+  out = chosen_out p u v;
 }
 
--- what is made of two instances and guards
+-- the row of resolution, where their part p is replaced in both
+abbrev pub row_of_both : FormTree → RowTree → RowTree → List FormTree → RowTree
+row_of_both p a b guards = row_joined p true a b (replaced_all p false b.form) guards a.out b.out
+
+-- what is made of two instances, guards and the row that comes of them
+abbrev pub figure_of : RowTree → RowTree → List FormTree → RowTree → Figure
+figure_of a b guards under = record { forms = a.form ∷ b.form ∷ []; outs = out_list a.out ++ out_list b.out; guards = guards; row = under }
+
+-- what resolution makes of two instances and guards
 abbrev pub figure_of_both : FormTree → RowTree → RowTree → List FormTree → Figure
-figure_of_both p a b guards = record { forms = a.form ∷ b.form ∷ []; outs = out_list a.out ++ out_list b.out; guards = guards; row = row_of_both p a b guards }
+figure_of_both p a b guards = figure_of a b guards (row_of_both p a b guards)
 
 -- the calls that stand in the test that chooses between two outputs
 abbrev pub test_standing : Option OutTree → Option OutTree → FormTree → SymId → List TermTree

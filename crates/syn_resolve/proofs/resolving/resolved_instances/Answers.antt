@@ -23,7 +23,7 @@ given_of_both-made-requires-clause-plain c =
     let i = c.requires.first_instance in
     let j = c.requires.second_instance in
     subst (λ (z : List FormTree). IsPlain c.args.syms.now (row_of_both c.args.p.now c.args.a.now c.args.b.now z)) (sym c.as_slice.ensures)
-    (whole_plain c.args.s.now c.args.p.now c.args.first.now c.args.second.now c.args.a.now c.args.b.now i.is j.is _ c.requires.among c.requires.part_among c.in_ok-guards.ensures.vars c.args.syms.now c.requires.keeps c.requires.pair.sorts c.requires.pair.given c.requires.formed (i.formed, i.formed_out) (j.formed, j.formed_out) c.in_ok-guards.ensures.formed)
+    (whole_plain c.args.s.now c.args.first.now c.args.second.now c.args.a.now c.args.b.now i.is j.is c.args.p.now _ c.requires.among c.requires.part_among c.in_ok-guards.ensures.vars c.args.syms.now c.requires.keeps c.requires.pair.sorts c.requires.pair.given c.requires.formed (i.formed, i.formed_out) (j.formed, j.formed_out) c.in_ok-guards.ensures.formed)
 
 pub given_of_both-made-requires-clause-own : goal.given_of_both-made-requires-clause-own
 given_of_both-made-requires-clause-own c =
@@ -34,5 +34,5 @@ returns-clause-row c =
     let guards : map bare_form c.as_slice.result.now ≡ map bare_form (joined_guards (option_copied c.args.rule) c.args.s.now c.args.p.now (c.args.first.now).out (c.args.second.now).out) = ap (map bare_form) c.as_slice.ensures ∙ c.in_ok-guards.ensures.guards in
     IfOk-weaker c.given_of_both-made.result _ _
     (λ o h. same_gives (figure_of_both c.args.p.now c.args.a.now c.args.b.now c.as_slice.result.now) (resolved (option_copied c.args.rule) c.args.s.now c.args.p.now c.args.first.now c.args.second.now)
-    (resolved_same c.args.s.now c.args.p.now c.args.first.now c.args.second.now c.args.a.now c.args.b.now c.requires.first_instance.is c.requires.second_instance.is (option_copied c.args.rule) c.as_slice.result.now guards) o h)
+    (resolved_same c.args.s.now c.args.first.now c.args.second.now c.args.a.now c.args.b.now c.requires.first_instance.is c.requires.second_instance.is c.args.p.now (option_copied c.args.rule) c.as_slice.result.now guards) o h)
     c.given_of_both-made.ensures.row
