@@ -4,6 +4,7 @@ ghost use Rattle.std.specs.Prelude.{◌<◌};
 
 use std::alloc::{AllocError, Global};
 use std::process::Abort;
+use std::rt::Files;
 use std::test::Fail;
 use syn_outside::{
     Cabinet, FolderCabinet, MemCabinet, MemSink, ReadError, StdSink, Trouble, WriteError, put_all,
@@ -78,19 +79,19 @@ fn holds<C: Cabinet>(alloc: Global, cab: &mut C, want: &[u8]) -> bool {
 }
 
 /// Writes the text at the place.
-fn writes<C: Cabinet>(rt: &impl Abort, cab: &mut C, place: u64, text: &[u8]) {
+fn writes<R: Abort + Files>(rt: &R, cab: &mut FolderCabinet<'_, R>, place: u64, text: &[u8]) {
     assert!(rt; cab.write("a.txt", place, text) == Ok(text.len()));
 }
 
 /// What can't be read or written.
-fn finds_no_file<C: Cabinet>(rt: &impl Abort, cab: &mut C) {
+fn finds_no_file<R: Abort + Files>(rt: &R, cab: &mut FolderCabinet<'_, R>) {
     let mut buffer = [1; 8];
     assert!(rt; cab.read("a.txt", 0, &mut buffer) == Err(Trouble::Failed));
     assert!(rt; cab.write("b.txt", 1, b"no such file") == Err(Trouble::Failed));
 }
 
 /// The rest of the buffer is left.
-fn reads_a_part<C: Cabinet>(rt: &impl Abort, cab: &mut C) {
+fn reads_a_part<R: Abort + Files>(rt: &R, cab: &mut FolderCabinet<'_, R>) {
     let mut buffer = [1; 8];
     assert!(rt; cab.read("a.txt", 1, &mut buffer) == Ok(6));
     assert!(rt; &buffer == b"irst 2\x01\x01");
