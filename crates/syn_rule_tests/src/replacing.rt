@@ -67,31 +67,76 @@ fn replaced(
     Ok(equal(alloc, bank, syms, None, r, at, way, s, place)?)
 }
 
-fn replaced_text(alloc: Global, syms: &Symbols, first: &str, second: &str) -> Result<String, Fail> {
-    let scope = scope_of(syms);
-    let mut bank = Bank::new(alloc);
+/// The text of what is given, `none` where nothing is.
+pub(crate) fn given_text(
+    alloc: Global,
+    syms: &Symbols,
+    given: Option<Row>,
+) -> Result<String, Fail> {
+    match given {
+        None => Ok(String::from_str(alloc, "none")?),
+        Some(row) => print_row(alloc, &scope_of(syms), &row),
+    }
+}
+
+fn replaced_in(
+    alloc: Global,
+    bank: &mut Bank,
+    syms: &Symbols,
+    r: &Row,
+    at: &Pos,
+    way: Dir,
+    second: &str,
+    place: &Pos,
+) -> Result<String, Fail>
+    requires { All (Belongs bank.old) (row_terms r.now) }
+{
+    let s = read_row(alloc, bank, &scope_of(syms), second)?;
+    let given = replaced(alloc, bank, syms, r, at, way, &s, place)?;
+    given_text(alloc, syms, given)
+}
+
+fn replaced_by(
+    alloc: Global,
+    bank: &mut Bank,
+    syms: &Symbols,
+    first: &str,
+    at: &Pos,
+    way: Dir,
+    second: &str,
+    place: &Pos,
+) -> Result<String, Fail> {
+    let r = read_row(alloc, bank, &scope_of(syms), first)?;
+    replaced_in(alloc, bank, syms, &r, at, way, second, place)
+}
+
+fn replaced_text(
+    alloc: Global,
+    bank: &mut Bank,
+    syms: &Symbols,
+    first: &str,
+    second: &str,
+) -> Result<String, Fail> {
     let (first, used) = cut(first, " @ ");
     let (second, place) = cut(second, " @ ");
     let (at, way) = cut(used, " ");
     let at = pos_of(alloc, at)?;
     let place = pos_of(alloc, place)?;
-    let r = read_row(alloc, &mut bank, &scope, first)?;
-    let s = read_row(alloc, &mut bank, &scope, second)?;
-    match replaced(alloc, &mut bank, syms, &r, &at, way_of(way), &s, &place)? {
-        None => Ok(String::from_str(alloc, "none")?),
-        Some(row) => print_row(alloc, &scope, &row),
+    replaced_by(alloc, bank, syms, first, &at, way_of(way), second, &place)
+}
+
+fn replace_equals(rt: &impl Abort, alloc: Global, syms: &Symbols) -> Result<(), Fail> {
+    for line in REPLACED.lines() {
+        let (case, want) = cut(line, " => ");
+        let (first, second) = cut(case, " / ");
+        let got = replaced_text(alloc, &mut Bank::new(alloc), syms, first, second)?;
+        assert_eq!(rt; got.as_str(), want, "at {line}");
     }
+    Ok(())
 }
 
 #[test]
 fn replaces_equals(rt: HostRuntime) -> Result<(), Fail> {
-    let alloc = rt.alloc();
-    let syms = make_table(alloc)?;
-    for line in REPLACED.lines() {
-        let (case, want) = cut(line, " => ");
-        let (first, second) = cut(case, " / ");
-        let got = replaced_text(alloc, &syms, first, second)?;
-        assert_eq!(rt; got.as_str(), want, "at {line}");
-    }
-    Ok(())
+    let syms = make_table(rt.alloc())?;
+    replace_equals(&rt, rt.alloc(), &syms)
 }

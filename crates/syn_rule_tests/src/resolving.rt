@@ -3,13 +3,14 @@ ghost use Rattle.std.specs.Prelude.{All};
 ghost use Rattle.syn_term.specs.Bank.{Belongs};
 ghost use Rattle.syn_row.specs.Rows.{row_terms};
 
+use crate::replacing::given_text;
 use std::alloc::Global;
 use std::process::Abort;
 use std::test::Fail;
 use syn_cases::cut;
 use syn_resolve::resolve;
 use syn_row::{Row, is_plain_row};
-use syn_row_cases::{give_one_sort, make_table, positions_of, print_row, read_row, scope_of};
+use syn_row_cases::{give_one_sort, make_table, positions_of, read_row, scope_of};
 use syn_term::{Bank, Pos, Symbols};
 
 /// Two rows, each with its positions, and the row that resolution gives without guards; `none` where it gives none.
@@ -52,30 +53,69 @@ fn resolvent(
     Ok(resolve(alloc, bank, syms, None, r, ps, s, qs)?)
 }
 
-fn resolved_text(alloc: Global, syms: &Symbols, first: &str, second: &str) -> Result<String, Fail> {
-    let scope = scope_of(syms);
-    let mut bank = Bank::new(alloc);
+fn resolved_with(
+    alloc: Global,
+    bank: &mut Bank,
+    syms: &Symbols,
+    r: &Row,
+    ps: &[Pos],
+    second: &str,
+    qs: &[Pos],
+) -> Result<String, Fail>
+    requires { All (Belongs bank.old) (row_terms r.now) }
+{
+    let s = read_row(alloc, bank, &scope_of(syms), second)?;
+    let given = resolvent(alloc, bank, syms, r, ps, &s, qs)?;
+    given_text(alloc, syms, given)
+}
+
+fn resolved_at(
+    alloc: Global,
+    bank: &mut Bank,
+    syms: &Symbols,
+    first: &str,
+    ps: &[Pos],
+    second: &str,
+    qs: &[Pos],
+) -> Result<String, Fail> {
+    let r = read_row(alloc, bank, &scope_of(syms), first)?;
+    resolved_with(alloc, bank, syms, &r, ps, second, qs)
+}
+
+fn resolved_text(
+    alloc: Global,
+    bank: &mut Bank,
+    syms: &Symbols,
+    first: &str,
+    second: &str,
+) -> Result<String, Fail> {
     let (first, ps) = cut(first, " @ ");
     let (second, qs) = cut(second, " @ ");
     let ps = positions_of(alloc, ps)?;
     let qs = positions_of(alloc, qs)?;
-    let r = read_row(alloc, &mut bank, &scope, first)?;
-    let s = read_row(alloc, &mut bank, &scope, second)?;
-    match resolvent(alloc, &mut bank, syms, &r, ps.as_slice(), &s, qs.as_slice())? {
-        None => Ok(String::from_str(alloc, "none")?),
-        Some(row) => print_row(alloc, &scope, &row),
+    resolved_at(
+        alloc,
+        bank,
+        syms,
+        first,
+        ps.as_slice(),
+        second,
+        qs.as_slice(),
+    )
+}
+
+fn resolve_rows(rt: &impl Abort, alloc: Global, syms: &Symbols) -> Result<(), Fail> {
+    for line in RESOLVED.lines() {
+        let (case, want) = cut(line, " => ");
+        let (first, second) = cut(case, " / ");
+        let got = resolved_text(alloc, &mut Bank::new(alloc), syms, first, second)?;
+        assert_eq!(rt; got.as_str(), want, "at {line}");
     }
+    Ok(())
 }
 
 #[test]
 fn resolves_rows(rt: HostRuntime) -> Result<(), Fail> {
-    let alloc = rt.alloc();
-    let syms = make_table(alloc)?;
-    for line in RESOLVED.lines() {
-        let (case, want) = cut(line, " => ");
-        let (first, second) = cut(case, " / ");
-        let got = resolved_text(alloc, &syms, first, second)?;
-        assert_eq!(rt; got.as_str(), want, "at {line}");
-    }
-    Ok(())
+    let syms = make_table(rt.alloc())?;
+    resolve_rows(&rt, rt.alloc(), &syms)
 }

@@ -1,11 +1,16 @@
 // What splitting, duality and reflexivity give.
+ghost use Rattle.std.specs.Prelude.{All};
+ghost use Rattle.syn_term.specs.Bank.{Belongs};
+ghost use Rattle.syn_row.specs.Rows.{row_terms};
+
+use crate::replacing::given_text;
 use std::alloc::Global;
 use std::process::Abort;
 use std::test::Fail;
 use syn_cases::cut;
 use syn_resolve::{dual, reflex, split};
-use syn_row::is_plain_row;
-use syn_row_cases::{make_table, pos_of, print_row, read_row, scope_of};
+use syn_row::{Row, is_plain_row};
+use syn_row_cases::{make_table, pos_of, read_row, scope_of};
 use syn_term::{Bank, Symbols, decimal_number};
 
 /// A row, a member, and the row that splitting gives; `none` where it gives none.
@@ -52,66 +57,103 @@ goal not ?1 = a / - => none";
 
 /// What is done with a row.
 #[derive(Clone, Copy)]
-enum Rule<'a> {
+pub(crate) enum Rule<'a> {
     Split(u32),
     Dual,
     Reflex(&'a str),
 }
 
-/// The text of what the rule gives of the row, `none` where it gives none.
-fn given_text(alloc: Global, syms: &Symbols, text: &str, rule: Rule<'_>) -> Result<String, Fail> {
-    let scope = scope_of(syms);
-    let mut bank = Bank::new(alloc);
-    let row = read_row(alloc, &mut bank, &scope, text)?;
-    if !is_plain_row(alloc, syms, &row)? {
+/// What the rule gives of the row.
+fn given(
+    alloc: Global,
+    bank: &mut Bank,
+    syms: &Symbols,
+    row: &Row,
+    rule: Rule<'_>,
+) -> Result<Option<Row>, Fail>
+    requires { All (Belongs bank.old) (row_terms row.now) }
+{
+    if !is_plain_row(alloc, syms, row)? {
         return Err(Fail::new("not plain"));
     }
-    let given = match rule {
-        Rule::Split(member) => split(alloc, &mut bank, syms, &row, member)?,
-        Rule::Dual => dual(alloc, &mut bank, syms, &row)?,
-        Rule::Reflex(at) => reflex(alloc, &mut bank, syms, None, &row, &pos_of(alloc, at)?)?,
-    };
-    match given {
-        None => Ok(String::from_str(alloc, "none")?),
-        Some(row) => print_row(alloc, &scope, &row),
+    match rule {
+        Rule::Split(member) => Ok(split(alloc, bank, syms, row, member)?),
+        Rule::Dual => Ok(dual(alloc, bank, syms, row)?),
+        Rule::Reflex(at) => {
+            let at = pos_of(alloc, at)?;
+            Ok(reflex(alloc, bank, syms, None, row, &at)?)
+        }
     }
 }
 
-#[test]
-fn splits_rows(rt: HostRuntime) -> Result<(), Fail> {
-    let alloc = rt.alloc();
-    let syms = make_table(alloc)?;
+/// The text of what the rule gives of the row of a text, `none` where it gives none.
+pub(crate) fn given_of(
+    alloc: Global,
+    bank: &mut Bank,
+    syms: &Symbols,
+    text: &str,
+    rule: Rule<'_>,
+) -> Result<String, Fail> {
+    let row = read_row(alloc, bank, &scope_of(syms), text)?;
+    let given = given(alloc, bank, syms, &row, rule)?;
+    given_text(alloc, syms, given)
+}
+
+/// The rule gives the row of the text.
+fn gives(
+    rt: &impl Abort,
+    alloc: Global,
+    syms: &Symbols,
+    text: &str,
+    rule: Rule<'_>,
+    want: &str,
+) -> Result<(), Fail> {
+    let got = given_of(alloc, &mut Bank::new(alloc), syms, text, rule)?;
+    assert_eq!(rt; got.as_str(), want, "at {text}");
+    Ok(())
+}
+
+fn split_rows(rt: &impl Abort, alloc: Global, syms: &Symbols) -> Result<(), Fail> {
     for line in SPLIT.lines() {
         let (case, want) = cut(line, " => ");
         let (text, member) = cut(case, " / ");
         let rule = Rule::Split(decimal_number(member).unwrap_or(0));
-        let got = given_text(alloc, &syms, text, rule)?;
-        assert_eq!(rt; got.as_str(), want, "at {line}");
+        gives(rt, alloc, syms, text, rule, want)?;
+    }
+    Ok(())
+}
+
+#[test]
+fn splits_rows(rt: HostRuntime) -> Result<(), Fail> {
+    let syms = make_table(rt.alloc())?;
+    split_rows(&rt, rt.alloc(), &syms)
+}
+
+fn take_duals(rt: &impl Abort, alloc: Global, syms: &Symbols) -> Result<(), Fail> {
+    for line in DUAL.lines() {
+        let (text, want) = cut(line, " => ");
+        gives(rt, alloc, syms, text, Rule::Dual, want)?;
     }
     Ok(())
 }
 
 #[test]
 fn takes_duals(rt: HostRuntime) -> Result<(), Fail> {
-    let alloc = rt.alloc();
-    let syms = make_table(alloc)?;
-    for line in DUAL.lines() {
-        let (text, want) = cut(line, " => ");
-        let got = given_text(alloc, &syms, text, Rule::Dual)?;
-        assert_eq!(rt; got.as_str(), want, "at {line}");
+    let syms = make_table(rt.alloc())?;
+    take_duals(&rt, rt.alloc(), &syms)
+}
+
+fn make_sides_one(rt: &impl Abort, alloc: Global, syms: &Symbols) -> Result<(), Fail> {
+    for line in REFLEX.lines() {
+        let (case, want) = cut(line, " => ");
+        let (text, at) = cut(case, " / ");
+        gives(rt, alloc, syms, text, Rule::Reflex(at), want)?;
     }
     Ok(())
 }
 
 #[test]
 fn makes_sides_one(rt: HostRuntime) -> Result<(), Fail> {
-    let alloc = rt.alloc();
-    let syms = make_table(alloc)?;
-    for line in REFLEX.lines() {
-        let (case, want) = cut(line, " => ");
-        let (text, at) = cut(case, " / ");
-        let got = given_text(alloc, &syms, text, Rule::Reflex(at))?;
-        assert_eq!(rt; got.as_str(), want, "at {line}");
-    }
-    Ok(())
+    let syms = make_table(rt.alloc())?;
+    make_sides_one(&rt, rt.alloc(), &syms)
 }

@@ -1,5 +1,0 @@
-use Rattle.syn_row_cases.proofs.Owning.{still}
-use Rattle.syn_rule_tests.proofs.replacing.replaced_text.Goals as goal
-
-pub replaced-requires-clause-first : goal.replaced-requires-clause-first
-replaced-requires-clause-first c = still _ _ _ c.in_ok-s.ensures.extends c.in_ok-r.ensures.belongs
