@@ -12,7 +12,7 @@ use Rattle.syn_start.specs.Derivations.{Lines}
 use Rattle.syn_start.specs.Starts.{IsStart, StartTree}
 use Rattle.syn_extract.specs.Final.{IsFinal, program_of_row}
 use Rattle.syn_step.specs.Acceptance.{FirstFollow, IsAccepted, accepted_program, judged, last_of}
-use Rattle.syn_step.specs.Rows.{IsRowOf}
+use Rattle.syn_start.specs.Rows.{IsRowOf}
 use Rattle.syn_replay.specs.declared.replaying.CheckError.{CheckError}
 use Rattle.syn_replay.specs.declared.replaying.CheckError.TheVariants as error
 use Rattle.syn_replay.specs.Refusals.{Refuses}

@@ -23,7 +23,7 @@ use Rattle.syn_start.specs.declared.steps.Step.{Step}
 use Rattle.syn_start.specs.Derivations.{Lines}
 use Rattle.syn_start.specs.Starts.{StartTree}
 use Rattle.syn_step.specs.Acceptance.{judged, last_of}
-use Rattle.syn_step.specs.Rows.{IsRowOf}
+use Rattle.syn_start.specs.Rows.{IsRowOf}
 
 -- the guard rule's terms still belong
 pub rule_still : (a b : Kept) (o : Option GuardRule) → Extends a b → IfSome o (RuleBelongs a) → IfSome o (RuleBelongs b)

@@ -3,7 +3,7 @@ ghost use Rattle.std.specs.Prelude.{◌≡◌, ◌↔◌, [], ◌∷◌, ◌++�
 ghost use Rattle.syn_term.specs.Bank.{Extends};
 ghost use Rattle.syn_row.specs.Guards.{RuleBelongs};
 ghost use Rattle.syn_row.specs.Rows.{IsSimplified, simplified_row};
-ghost use Rattle.syn_step.specs.Rows.{IsRowOf};
+ghost use Rattle.syn_start.specs.Rows.{IsRowOf};
 ghost use Rattle.syn_replay.specs.inner.Lines.{ComesOf};
 
 use crate::variants::is_variant;

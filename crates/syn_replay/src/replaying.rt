@@ -5,7 +5,7 @@ ghost use Rattle.syn_term.specs.Bank.{Extends};
 ghost use Rattle.syn_row.specs.Guards.{RuleBelongs};
 ghost use Rattle.syn_model.specs.BareParts.{bare_program_tree};
 ghost use Rattle.syn_step.specs.Acceptance.{FirstFollow, IsAccepted, accepted_program, judged};
-ghost use Rattle.syn_step.specs.Rows.{IsRowOf};
+ghost use Rattle.syn_start.specs.Rows.{IsRowOf};
 ghost use Rattle.syn_replay.specs.Refusals.{Refuses};
 ghost use Rattle.syn_replay.specs.inner.Ends.{EndsIn, FailsToEnd, FailsToFollow, HasNoProgram, IsProgramOf};
 

@@ -17,7 +17,7 @@ use Rattle.syn_start.specs.declared.steps.Step.TheVariants as step
 use Rattle.syn_start.specs.Initial.{Exactly, GivenOf, assertion_of, def_form, goal_of, input_condition, output_condition}
 use Rattle.syn_start.specs.Starts.{StartTree}
 use Rattle.syn_resolve.specs.Splitting.{Splits, conclusion, conjunct, disjunct, premise}
-use Rattle.syn_step.specs.Rows.{IsRowOf}
+use Rattle.syn_start.specs.Rows.{IsRowOf}
 use Rattle.syn_step.specs.Steps.{OfRow, StepGives}
 use Rattle.syn_step.proofs.GivenSorts.{AllGive, canonical_gives, chosen_gives, formed_gives, gives_sort, substituted_give, variable_gives, variant_gives}
 use Rattle.syn_step.proofs.NumberedRows.{row_holds}

@@ -1,7 +1,7 @@
 use Rattle.std.proofs.Common.{All, sym, subst}
 use Rattle.syn_form.specs.Same.{OfOneBank-from}
 use Rattle.syn_row.specs.Rows.{row_terms}
-use Rattle.syn_step.specs.Rows.{IsRowOf}
+use Rattle.syn_start.specs.Rows.{IsRowOf}
 use Rattle.syn_replay.proofs.OneStep.{line_follows}
 use Rattle.syn_replay.proofs.RowsOfLines.{is_simplified, row_simplified}
 use Rattle.syn_replay.proofs.following.take_line.Goals as goal

@@ -20,6 +20,3 @@ pub returns-in-Def-clause-row : goal.returns-in-Def-clause-row
 returns-in-Def-clause-row c = λ rows.
     subst (λ (z : Origin). IfOk c.def_row.result (Exactly (StepGives c.args.start.now rows (step.Start z)))) (sym c.in-Def.is)
     (subst (λ (name : List ℕ). IfOk c.def_row.result (Exactly (DefRow (c.args.start.now).theory.decls name c.in-Def.clause.now))) c.as_str.ensures c.def_row.ensures.row)
-
-
-
