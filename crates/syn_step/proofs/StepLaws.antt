@@ -6,7 +6,7 @@ use Rattle.syn_row.specs.Rows.{IsPlain, RowTree, bare_row, canonical_row}
 use Rattle.syn_start.specs.declared.steps.Origin.TheVariants as origin
 use Rattle.syn_start.specs.declared.steps.Step.{Step}
 use Rattle.syn_start.specs.declared.steps.Step.TheVariants as step
-use Rattle.syn_start.specs.Initial.{GivenOf, assertion_of, def_form, goal_of, output_condition}
+use Rattle.syn_start.specs.Initial.{GivenOf, assertion_of, def_form, goal_of, input_condition, output_condition}
 use Rattle.syn_start.specs.Starts.{StartTree}
 use Rattle.syn_form.specs.Quantified.{unquantified}
 use Rattle.std.specs.Option.{option_and_then, option_map}
@@ -27,7 +27,7 @@ given_canonical (Some u) q h = (u, h.is)
 
 pub step_canonical : (x : StartTree) (rows : List RowTree) (s : Step) (q : RowTree) → StepGives x rows s q → IsCanonicalOf q
 step_canonical x rows (step.Start origin.Goal) q h = given_canonical (option_map (goal_of x.spec) (option_and_then unquantified (output_condition x.spec.parts))) q h
-step_canonical x rows (step.Start origin.Input) q h = (_, h.is)
+step_canonical x rows (step.Start origin.Input) q h = (assertion_of (input_condition x.spec.parts), h.is)
 step_canonical x rows (step.Start (origin.Def name k)) q h = given_canonical (option_map assertion_of (def_form x.theory.decls name k)) q h
 step_canonical x rows (step.Start (origin.Axiom name)) q h = absurd h
 step_canonical x rows (step.Start origin.Induct) q h = absurd h

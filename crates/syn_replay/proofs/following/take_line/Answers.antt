@@ -7,10 +7,10 @@ use Rattle.syn_replay.proofs.RowsOfLines.{is_simplified, row_simplified}
 use Rattle.syn_replay.proofs.following.take_line.Goals as goal
 
 pub simplified-requires : goal.simplified-requires
-simplified-requires c = OfOneBank-from c.args.bank.now (row_terms c.args.row.now) c.requires.row.belongs
+simplified-requires c = OfOneBank-from c.args.bank.now (row_terms c.args.written.now) c.requires.row.belongs
 
 pub follows-requires-clause-row : goal.follows-requires-clause-row
-follows-requires-clause-row c = row_simplified c.args.start.now c.args.bank.now c.args.row.now c.in_ok-row.row c.in_ok-row.ensures c.requires.row
+follows-requires-clause-row c = row_simplified c.args.start.now c.args.bank.now c.args.written.now c.in_ok-row.row c.in_ok-row.ensures c.requires.row
 
 pub follows-requires-clause-simplified : goal.follows-requires-clause-simplified
-follows-requires-clause-simplified c = is_simplified c.args.row.now c.in_ok-row.row c.in_ok-row.ensures
+follows-requires-clause-simplified c = is_simplified c.args.written.now c.in_ok-row.row c.in_ok-row.ensures
