@@ -1,5 +1,5 @@
 -- Rows that are named by their numbers, and what is answered of them.
-use Rattle.std.proofs.Common.{◌≡◌, ℕ, zero, suc, List, Option, None, Some, MatchOption, All, slice_get, sym, subst}
+use Rattle.std.proofs.Common.{◌≡◌, ℕ, zero, suc, List, Option, None, Some, MatchOption, All, sym, subst}
 use Rattle.std.proofs.lemmas.Option.{get_or_from_slice_get, slice_get_within}
 use Rattle.syn_row.specs.Rows.{RowTree}
 use Rattle.syn_start.specs.declared.steps.Step.{Step}

@@ -1,6 +1,5 @@
 -- What each step gives is the canonical row of some row, and a step gives one row at most.
 use Rattle.std.proofs.Common.{◌≡◌, ℕ, List, Option, None, Some, IfSome, All, sym, ◌∙◌, subst}
-use Rattle.syn_term.specs.Symbols.{SymbolTable}
 use Rattle.syn_row.specs.Guards.{IsGuardRule}
 use Rattle.syn_row.specs.Rows.{IsPlain, RowTree, bare_row, canonical_row}
 use Rattle.syn_start.specs.declared.steps.Origin.TheVariants as origin
@@ -14,7 +13,7 @@ use Rattle.syn_resolve.specs.Replacement.{EqualGives}
 use Rattle.syn_resolve.specs.Resolution.{ReflexGives, ResolveGives}
 use Rattle.syn_resolve.specs.Splitting.{DualGives, SplitGives}
 use Rattle.syn_resolve.proofs.Laws.{rule_laws}
-use Rattle.syn_step.specs.Steps.{OfRow, StepGives, row_at}
+use Rattle.syn_step.specs.Steps.{OfRow, StepGives}
 use Rattle.syn_step.proofs.NumberedRows.{row_holds}
 
 -- the row is the canonical one of some row

@@ -1,8 +1,5 @@
-use Rattle.std.proofs.Common.{ℕ, List, IfOk, ap, sym, subst}
-use Rattle.std.proofs.lemmas.Result.{IfOk-weaker}
-use Rattle.syn_row.specs.Rows.{RowTree}
+use Rattle.std.proofs.Common.{ℕ, List, IfOk, sym, subst}
 use Rattle.syn_start.specs.declared.steps.Origin.{Origin}
-use Rattle.syn_start.specs.declared.steps.Origin.TheVariants as origin
 use Rattle.syn_start.specs.declared.steps.Step.TheVariants as step
 use Rattle.syn_start.specs.Initial.{DefRow, Exactly}
 use Rattle.syn_step.specs.Steps.{StepGives}
