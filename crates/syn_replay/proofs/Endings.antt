@@ -1,5 +1,5 @@
 -- How a replay ends: with the program of the last row, or with the cause of its refusal.
-use Rattle.std.proofs.Common.{◌≡◌, ◌↔◌, ℕ, List, Option, None, Some, IfSome, Result, Ok, Err, IfOk, IfErr, MatchResult, Bool, true, false, IsTrue, length, sym, ◌∙◌, ap, subst}
+use Rattle.std.proofs.Common.{◌≡◌, ◌↔◌, List, Option, None, Some, IfSome, Result, Ok, Err, IfOk, IfErr, MatchResult, true, false, IsTrue, length, sym, ◌∙◌, ap, subst}
 use Rattle.std.specs.Option.{option_map}
 use Rattle.syn_term.specs.Bank.{Kept}
 use Rattle.syn_form.specs.Plain.{IsFormedOut, given_sort}

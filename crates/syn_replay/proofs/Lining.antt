@@ -1,5 +1,5 @@
 -- The loop over the lines of a derivation: what holds of the first lines, of one more, and where one doesn't follow.
-use Rattle.std.proofs.Common.{◌≡◌, ◌↔◌, ◌<◌, ◌≤◌, ◌+◌, ℕ, suc, List, [], ◌∷◌, ◌++◌, Option, Some, IfSome, Bool, true, false, IsTrue, map, length, get_or, take, take_all, below_more, refl, sym, ◌∙◌, ap, subst, arith}
+use Rattle.std.proofs.Common.{◌≡◌, ◌↔◌, ◌<◌, ◌+◌, ℕ, List, [], ◌∷◌, ◌++◌, Option, Some, IfSome, Bool, true, false, IsTrue, length, get_or, take, below_more, refl, sym, ◌∙◌, ap, subst, arith}
 use Rattle.std.specs.List.{slice_get}
 use Rattle.std.proofs.lemmas.List.{map-append, take_more}
 use Rattle.std.proofs.lemmas.Option.{slice_get_read}
@@ -41,10 +41,3 @@ module _ (x : StartTree) (ls : Lines) (i : ℕ) (l : Step × RowTree) (rows : Li
 -- what a test says where it is not passed
 pub not_told : (b : Bool) (P : Type 0) → b ≡ false → (IsTrue b ↔ P) → P → ⊥
 not_told b P e h p = let t : b ≡ true = h.1 p in absurd (cc)
-
--- after the last line
-pub all_follow : (x : StartTree) (ls : Lines) (n : ℕ) → length ls ≤ n → FirstFollow x ls n → FirstFollow x ls (length ls)
-all_follow x ls n le h = λ i lt. h i (omega arith)
-
-pub all_judged : (ls : Lines) (n : ℕ) (rows : List RowTree) → length ls ≤ n → rows ≡ judged (take n ls) → rows ≡ judged ls
-all_judged ls n rows le e = e ∙ ap judged (take_all n ls le)

@@ -1,4 +1,4 @@
-use Rattle.std.proofs.Common.{◌≡◌, ◌∙◌, ap}
+use Rattle.std.proofs.Common.{◌∙◌, ap}
 use Rattle.syn_step.specs.Acceptance.{judged}
 use Rattle.syn_replay.proofs.Endings.{ends_accepted, ends_program, ends_refused, line_refused}
 use Rattle.syn_replay.proofs.RowsOfLines.{all_kept}
