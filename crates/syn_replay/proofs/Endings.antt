@@ -1,5 +1,5 @@
 -- How a replay ends: with the program of the last row, or with the cause of its refusal.
-use Rattle.std.proofs.Common.{◌≡◌, ◌↔◌, ℕ, List, Option, None, Some, IfSome, Bool, true, false, IsTrue, length, sym, ◌∙◌, ap, subst}
+use Rattle.std.proofs.Common.{◌≡◌, ◌↔◌, List, Option, None, Some, IfSome, Result, Ok, Err, IfOk, IfErr, MatchResult, true, false, IsTrue, length, sym, ◌∙◌, ap, subst}
 use Rattle.std.specs.Option.{option_map}
 use Rattle.syn_term.specs.Bank.{Kept}
 use Rattle.syn_form.specs.Plain.{IsFormedOut, given_sort}
@@ -12,7 +12,7 @@ use Rattle.syn_start.specs.Derivations.{Lines}
 use Rattle.syn_start.specs.Starts.{IsStart, StartTree}
 use Rattle.syn_extract.specs.Final.{IsFinal, program_of_row}
 use Rattle.syn_step.specs.Acceptance.{FirstFollow, IsAccepted, accepted_program, judged, last_of}
-use Rattle.syn_step.specs.Rows.{IsRowOf}
+use Rattle.syn_start.specs.Rows.{IsRowOf}
 use Rattle.syn_replay.specs.declared.replaying.CheckError.{CheckError}
 use Rattle.syn_replay.specs.declared.replaying.CheckError.TheVariants as error
 use Rattle.syn_replay.specs.Refusals.{Refuses}
@@ -30,12 +30,12 @@ module _ (x : StartTree) (s : SpecTree) (is : s ≡ x.spec) where
     pub output_sort : IfSome r.out (λ o. given_sort s.table o ≡ Some s.head.result)
     output_sort = subst (λ (z : SpecTree). IfSome r.out (λ o. given_sort z.table o ≡ Some z.head.result)) (sym is) row.output
 
-  -- and what it answers
-  pub row_program : (r : RowTree) (p : ProgramTree) → IsFinal s r → bare_program_tree p ≡ bare_program_tree (program_of_row s r) → IsProgramOf x.spec r p
-  row_program r p final e = subst (λ (z : SpecTree). IsProgramOf z r p) is (record { final = final; program = e })
-
   pub not_final : (r : RowTree) → (IsTrue false ↔ IsFinal s r) → IsFinal x.spec r → ⊥
   not_final r test h = let e : false ≡ true = test.1 (subst (λ (z : SpecTree). IsFinal z r) (sym is) h) in absurd (cc)
+
+-- and what it answers, told of the specification that was lent for it
+pub row_program : (x : StartTree) (s t : SpecTree) (r : RowTree) (p : ProgramTree) → s ≡ x.spec → t ≡ x.spec → IsFinal s r → bare_program_tree p ≡ bare_program_tree (program_of_row t r) → IsProgramOf x.spec r p
+row_program x s t r p e f final made = record { final = subst (λ (z : SpecTree). IsFinal z r) e final; program = made ∙ ap (λ (z : SpecTree). bare_program_tree (program_of_row z r)) f }
 
 -- the last of the rows
 module _ (s : SpecTree) (rows : List RowTree) where
@@ -61,18 +61,34 @@ module _ (x : StartTree) (ls lines : Lines) (rows : List RowTree) (same : lines 
   last_whole : (r : RowTree) → last_of rows ≡ Some r → last_of (judged ls) ≡ Some r
   last_whole r e = ap last_of (sym rows_are) ∙ e
 
-  pub accepted : (p : ProgramTree) → FirstFollow x lines (length lines) → EndsIn x.spec rows p → IsAccepted x ls
+  accepted : (p : ProgramTree) → FirstFollow x lines (length lines) → EndsIn x.spec rows p → IsAccepted x ls
   accepted p h ends = record { follow = follow_whole h; last = ends.last; last_is = last_whole ends.last ends.last_is; final = ends.program.final }
 
-  pub program_accepted : (p : ProgramTree) → EndsIn x.spec rows p → Some (bare_program_tree p) ≡ option_map bare_program_tree (accepted_program x ls)
+  program_accepted : (p : ProgramTree) → EndsIn x.spec rows p → Some (bare_program_tree p) ≡ option_map bare_program_tree (accepted_program x ls)
   program_accepted p ends =
       ap (λ (z : ProgramTree). Some z) ends.program.program
       ∙ sym (ap (λ (o : Option RowTree). option_map bare_program_tree (option_map (program_of_row x.spec) o)) (last_whole ends.last ends.last_is))
 
-  pub end_refused : (e : CheckError) → FirstFollow x lines (length lines) → FailsToEnd x.spec rows e → Refuses x ls e
+  end_refused : (e : CheckError) → FirstFollow x lines (length lines) → FailsToEnd x.spec rows e → Refuses x ls e
   end_refused (error.NotFollows k) h f = absurd f
   end_refused error.NotFinal h f = (follow_whole h, λ a. f a.last (ap last_of rows_are ∙ a.last_is) a.final)
   end_refused error.NoMemory h f = tt
+
+  -- what is answered once all lines follow
+  abbrev Ended : Result ProgramTree CheckError → Type 0
+  Ended r = MatchResult r (EndsIn x.spec rows) (FailsToEnd x.spec rows)
+
+  pub ends_accepted : (r : Result ProgramTree CheckError) → FirstFollow x lines (length lines) → Ended r → IfOk r (λ p. IsAccepted x ls)
+  ends_accepted (Ok p) h ends = accepted p h ends
+  ends_accepted (Err e) h ends = tt
+
+  pub ends_program : (r : Result ProgramTree CheckError) → Ended r → IfOk r (λ p. Some (bare_program_tree p) ≡ option_map bare_program_tree (accepted_program x ls))
+  ends_program (Ok p) ends = program_accepted p ends
+  ends_program (Err e) ends = tt
+
+  pub ends_refused : (r : Result ProgramTree CheckError) → FirstFollow x lines (length lines) → Ended r → IfErr r (Refuses x ls)
+  ends_refused (Ok p) h ends = tt
+  ends_refused (Err e) h ends = end_refused e h ends
 
 pub line_refused : (x : StartTree) (ls lines : Lines) (e : CheckError) → lines ≡ ls → FailsToFollow x lines e → Refuses x ls e
 line_refused x ls lines (error.NotFollows k) same h = subst (λ (z : Lines). FailsToFollow x z (error.NotFollows k)) same h

@@ -1,5 +1,5 @@
 -- The loop over the lines of a derivation: what holds of the first lines, of one more, and where one doesn't follow.
-use Rattle.std.proofs.Common.{◌≡◌, ◌<◌, ◌≤◌, ◌+◌, ℕ, suc, List, [], ◌∷◌, ◌++◌, Option, Some, IfSome, map, length, get_or, take, take_all, below_more, refl, sym, ◌∙◌, ap, subst, arith}
+use Rattle.std.proofs.Common.{◌≡◌, ◌↔◌, ◌<◌, ◌+◌, ℕ, List, [], ◌∷◌, ◌++◌, Option, Some, IfSome, Bool, true, false, IsTrue, length, get_or, take, below_more, refl, sym, ◌∙◌, ap, subst, arith}
 use Rattle.std.specs.List.{slice_get}
 use Rattle.std.proofs.lemmas.List.{map-append, take_more}
 use Rattle.std.proofs.lemmas.Option.{slice_get_read}
@@ -38,9 +38,6 @@ module _ (x : StartTree) (ls : Lines) (i : ℕ) (l : Step × RowTree) (rows : Li
   pub first_fails : (k : ℕ) → k ≡ i + 1 → (ComesOf x rows l.0 (simplified_row l.1) → ⊥) → FirstFollow x ls i → IsFirstToFail x ls k
   first_fails k e none before = record { before = i; number = omega arith; line = l; there = there; earlier = before; fails = λ f. none (from_follows f) }
 
--- after the last line
-pub all_follow : (x : StartTree) (ls : Lines) (n : ℕ) → length ls ≤ n → FirstFollow x ls n → FirstFollow x ls (length ls)
-all_follow x ls n le h = λ i lt. h i (omega arith)
-
-pub all_judged : (ls : Lines) (n : ℕ) (rows : List RowTree) → length ls ≤ n → rows ≡ judged (take n ls) → rows ≡ judged ls
-all_judged ls n rows le e = e ∙ ap judged (take_all n ls le)
+-- what a test says where it is not passed
+pub not_told : (b : Bool) (P : Type 0) → b ≡ false → (IsTrue b ↔ P) → P → ⊥
+not_told b P e h p = let t : b ≡ true = h.1 p in absurd (cc)

@@ -9,7 +9,7 @@ use Rattle.syn_model.specs.Specifications.{SpecTree}
 use Rattle.syn_start.specs.declared.steps.Step.{Step}
 use Rattle.syn_start.specs.Initial.{Exactly, IsReady}
 use Rattle.syn_start.specs.Starts.{IsStart, StartTree}
-use Rattle.syn_step.specs.Rows.{IsRowOf}
+use Rattle.syn_start.specs.Rows.{IsRowOf}
 use Rattle.syn_step.specs.Steps.{StepGives}
 use Rattle.syn_step.proofs.StepLaws.{step_one}
 use Rattle.syn_replay.specs.inner.Lines.{ComesOf}

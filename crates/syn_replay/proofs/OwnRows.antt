@@ -1,5 +1,5 @@
 -- A row that is its own canonical row, and rows that are variants of it.
-use Rattle.std.proofs.Common.{◌≡◌, ◌↔◌, ◌≤◌, ℕ, List, ◌++◌, Option, None, Some, MatchOption, IfSome, Bool, true, false, IsTrue, All, sym, ◌∙◌, subst, arith}
+use Rattle.std.proofs.Common.{◌≡◌, ◌↔◌, ◌++◌, Option, None, Some, MatchOption, IfSome, Bool, true, false, IsTrue, All, sym, ◌∙◌, subst, arith}
 use Rattle.std.proofs.lemmas.List.Elements.{All-append}
 use Rattle.syn_term.specs.Bank.{Belongs, Extends, Kept}
 use Rattle.syn_form.specs.Same.{OfOneBank, OfOneBank-from}

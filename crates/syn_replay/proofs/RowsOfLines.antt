@@ -3,7 +3,6 @@ use Rattle.std.proofs.Common.{◌≡◌, ◌<◌, ◌-◌, ℕ, List, Option, No
 use Rattle.std.specs.Option.{option_map}
 use Rattle.std.proofs.lemmas.List.Elements.{All-map, All-take, All-weaker}
 use Rattle.std.proofs.lemmas.Option.{get_or_from_slice_get, slice_get_within}
-use Rattle.std.specs.List.{slice_get}
 use Rattle.syn_term.specs.Bank.{Extends, Kept}
 use Rattle.syn_term.specs.declared.sorts.Sort.{Sort}
 use Rattle.syn_term.specs.Symbols.{SymbolTable}
@@ -23,7 +22,7 @@ use Rattle.syn_start.specs.declared.steps.Step.{Step}
 use Rattle.syn_start.specs.Derivations.{Lines}
 use Rattle.syn_start.specs.Starts.{StartTree}
 use Rattle.syn_step.specs.Acceptance.{judged, last_of}
-use Rattle.syn_step.specs.Rows.{IsRowOf}
+use Rattle.syn_start.specs.Rows.{IsRowOf}
 
 -- the guard rule's terms still belong
 pub rule_still : (a b : Kept) (o : Option GuardRule) → Extends a b → IfSome o (RuleBelongs a) → IfSome o (RuleBelongs b)

@@ -1,5 +1,5 @@
 -- For public contracts: why a derivation is refused.
-use Rattle.std.specs.Prelude.{ℕ, length}
+use Rattle.std.specs.Prelude.{length}
 use Rattle.syn_start.specs.Derivations.{Lines}
 use Rattle.syn_start.specs.Starts.{StartTree}
 use Rattle.syn_replay.specs.declared.replaying.CheckError.{CheckError}

@@ -3,7 +3,7 @@ ghost use Rattle.std.specs.Prelude.{◌≡◌, ◌↔◌, [], ◌∷◌, ◌++�
 ghost use Rattle.syn_term.specs.Bank.{Extends};
 ghost use Rattle.syn_row.specs.Guards.{RuleBelongs};
 ghost use Rattle.syn_row.specs.Rows.{IsSimplified, simplified_row};
-ghost use Rattle.syn_step.specs.Rows.{IsRowOf};
+ghost use Rattle.syn_start.specs.Rows.{IsRowOf};
 ghost use Rattle.syn_replay.specs.inner.Lines.{ComesOf};
 
 use crate::variants::is_variant;
@@ -50,17 +50,17 @@ pub(crate) fn take_line(
     bank: &mut Bank,
     start: &Start,
     step: &Step,
-    row: &Row,
+    written: &Row,
     rows: &mut Items<Row>,
 ) -> Result<bool, NoMemory>
     requires rule { IfSome (start.now).rule (RuleBelongs bank.old) }
-    requires row { IsRowOf start.now bank.old row.now }
+    requires row { IsRowOf start.now bank.old written.now }
     requires rows { All (IsRowOf start.now bank.old) rows.old }
-    ensures follows { IfOk result (λ b. IsTrue b ↔ ComesOf start.now rows.old step.now (simplified_row row.now)) }
-    ensures kept { IfOk result (λ b. IsTrue b → rows.new ≡ rows.old ++ simplified_row row.now ∷ []) }
+    ensures follows { IfOk result (λ b. IsTrue b ↔ ComesOf start.now rows.old step.now (simplified_row written.now)) }
+    ensures kept { IfOk result (λ b. IsTrue b → rows.new ≡ rows.old ++ simplified_row written.now ∷ []) }
     ensures extends { Extends bank.old bank.new }
 {
-    let row = simplified(alloc, row)?;
+    let row = simplified(alloc, written)?;
     match follows(alloc, bank, start, rows.as_slice(), step, &row) {
         Ok(true) => {
             rows.push(row)?;

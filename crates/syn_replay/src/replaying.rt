@@ -5,13 +5,14 @@ ghost use Rattle.syn_term.specs.Bank.{Extends};
 ghost use Rattle.syn_row.specs.Guards.{RuleBelongs};
 ghost use Rattle.syn_model.specs.BareParts.{bare_program_tree};
 ghost use Rattle.syn_step.specs.Acceptance.{FirstFollow, IsAccepted, accepted_program, judged};
-ghost use Rattle.syn_step.specs.Rows.{IsRowOf};
+ghost use Rattle.syn_start.specs.Rows.{IsRowOf};
 ghost use Rattle.syn_replay.specs.Refusals.{Refuses};
 ghost use Rattle.syn_replay.specs.inner.Ends.{EndsIn, FailsToEnd, FailsToFollow, HasNoProgram, IsProgramOf};
 
 use crate::following::take_line;
 use sqlite_items::Items;
 use std::alloc::Global;
+use std::fmt;
 use syn_extract::{is_final, program_of};
 use syn_model::Program;
 use syn_row::Row;
@@ -27,6 +28,16 @@ pub enum CheckError {
     NotFinal,
     /// A request for memory was refused.
     NoMemory,
+}
+
+impl fmt::Display for CheckError {
+    fn fmt<W: fmt::Write>(&self, f: &mut fmt::Formatter<W>) -> fmt::Result {
+        match self {
+            CheckError::NotFollows(k) => write!(f, "row {k} does not follow"),
+            CheckError::NotFinal => write!(f, "not final"),
+            CheckError::NoMemory => write!(f, "no memory"),
+        }
+    }
 }
 
 impl From<NoMemory> for CheckError {

@@ -1,7 +1,9 @@
 -- Rows that are named by their numbers, and what is answered of them.
-use Rattle.std.proofs.Common.{◌≡◌, ℕ, zero, suc, List, Option, None, Some, MatchOption, All, slice_get, subst}
+use Rattle.std.proofs.Common.{◌≡◌, ℕ, zero, suc, List, Option, None, Some, MatchOption, All, sym, subst}
 use Rattle.std.proofs.lemmas.Option.{get_or_from_slice_get, slice_get_within}
 use Rattle.syn_row.specs.Rows.{RowTree}
+use Rattle.syn_start.specs.declared.steps.Step.{Step}
+use Rattle.syn_start.specs.declared.steps.Step.TheVariants as step
 use Rattle.syn_start.specs.Initial.{Exactly}
 use Rattle.syn_step.specs.Steps.{OfRow, row_at}
 
@@ -32,3 +34,8 @@ rows_given Holds rows n m r s None e f h = λ q w.
     let second : w.2.0 ≡ s = cc in
     h q (subst (λ (y : RowTree). Holds y s q) first (subst (λ (z : RowTree). Holds w.0 z q) second w.2.2))
 rows_given Holds rows n m r s (Some q) e f h = (r, e, (s, f, h))
+
+-- what holds of resolution at positions that are lent holds of the step that keeps them
+pub resolve_lent : (P : Step → Type 0) (s : Step) (n m : ℕ) (ps qs lent_ps lent_qs : List (List ℕ)) → s ≡ step.Resolve n ps m qs → lent_ps ≡ ps → lent_qs ≡ qs → P (step.Resolve n lent_ps m lent_qs) → P s
+resolve_lent P s n m ps qs lent_ps lent_qs is e f h =
+    subst P (sym is) (subst (λ (z : List (List ℕ)). P (step.Resolve n ps m z)) f (subst (λ (z : List (List ℕ)). P (step.Resolve n z m lent_qs)) e h))

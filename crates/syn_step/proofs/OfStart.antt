@@ -11,7 +11,7 @@ use Rattle.syn_row.specs.JoinLaws.{GiveOneSort}
 use Rattle.syn_row.specs.Rows.{IsPlain, IsSimplified, IsWithinRow, RowTree, row_terms}
 use Rattle.syn_start.specs.Initial.{IsReady}
 use Rattle.syn_start.specs.Starts.{StartTree}
-use Rattle.syn_step.specs.Rows.{IsRowOf}
+use Rattle.syn_start.specs.Rows.{IsRowOf}
 use Rattle.syn_step.specs.Steps.{row_at}
 use Rattle.syn_step.proofs.NumberedRows.{row_holds}
 

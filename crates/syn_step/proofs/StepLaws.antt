@@ -1,12 +1,11 @@
 -- What each step gives is the canonical row of some row, and a step gives one row at most.
 use Rattle.std.proofs.Common.{◌≡◌, ℕ, List, Option, None, Some, IfSome, All, sym, ◌∙◌, subst}
-use Rattle.syn_term.specs.Symbols.{SymbolTable}
 use Rattle.syn_row.specs.Guards.{IsGuardRule}
 use Rattle.syn_row.specs.Rows.{IsPlain, RowTree, bare_row, canonical_row}
 use Rattle.syn_start.specs.declared.steps.Origin.TheVariants as origin
 use Rattle.syn_start.specs.declared.steps.Step.{Step}
 use Rattle.syn_start.specs.declared.steps.Step.TheVariants as step
-use Rattle.syn_start.specs.Initial.{GivenOf, assertion_of, def_form, goal_of, output_condition}
+use Rattle.syn_start.specs.Initial.{GivenOf, assertion_of, def_form, goal_of, input_condition, output_condition}
 use Rattle.syn_start.specs.Starts.{StartTree}
 use Rattle.syn_form.specs.Quantified.{unquantified}
 use Rattle.std.specs.Option.{option_and_then, option_map}
@@ -14,7 +13,7 @@ use Rattle.syn_resolve.specs.Replacement.{EqualGives}
 use Rattle.syn_resolve.specs.Resolution.{ReflexGives, ResolveGives}
 use Rattle.syn_resolve.specs.Splitting.{DualGives, SplitGives}
 use Rattle.syn_resolve.proofs.Laws.{rule_laws}
-use Rattle.syn_step.specs.Steps.{OfRow, StepGives, row_at}
+use Rattle.syn_step.specs.Steps.{OfRow, StepGives}
 use Rattle.syn_step.proofs.NumberedRows.{row_holds}
 
 -- the row is the canonical one of some row
@@ -27,7 +26,7 @@ given_canonical (Some u) q h = (u, h.is)
 
 pub step_canonical : (x : StartTree) (rows : List RowTree) (s : Step) (q : RowTree) → StepGives x rows s q → IsCanonicalOf q
 step_canonical x rows (step.Start origin.Goal) q h = given_canonical (option_map (goal_of x.spec) (option_and_then unquantified (output_condition x.spec.parts))) q h
-step_canonical x rows (step.Start origin.Input) q h = (_, h.is)
+step_canonical x rows (step.Start origin.Input) q h = (assertion_of (input_condition x.spec.parts), h.is)
 step_canonical x rows (step.Start (origin.Def name k)) q h = given_canonical (option_map assertion_of (def_form x.theory.decls name k)) q h
 step_canonical x rows (step.Start (origin.Axiom name)) q h = absurd h
 step_canonical x rows (step.Start origin.Induct) q h = absurd h

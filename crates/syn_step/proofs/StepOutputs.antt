@@ -8,17 +8,17 @@ use Rattle.syn_term.specs.declared.sorts.Sort.{Sort}
 use Rattle.syn_form.specs.Plain.{given_sort}
 use Rattle.syn_form.specs.Quantified.{unquantified}
 use Rattle.syn_form.specs.Trees.{FormTree, OutTree}
-use Rattle.syn_row.specs.Results.{AreApart, chosen_out}
+use Rattle.syn_row.specs.Results.{AreApart}
 use Rattle.syn_row.specs.Rows.{RowTree}
-use Rattle.syn_model.specs.Specifications.{SpecTree, output_var}
+use Rattle.syn_model.specs.Specifications.{output_var}
 use Rattle.syn_start.specs.declared.steps.Origin.TheVariants as origin
 use Rattle.syn_start.specs.declared.steps.Step.{Step}
 use Rattle.syn_start.specs.declared.steps.Step.TheVariants as step
 use Rattle.syn_start.specs.Initial.{Exactly, GivenOf, assertion_of, def_form, goal_of, input_condition, output_condition}
 use Rattle.syn_start.specs.Starts.{StartTree}
 use Rattle.syn_resolve.specs.Splitting.{Splits, conclusion, conjunct, disjunct, premise}
-use Rattle.syn_step.specs.Rows.{IsRowOf}
-use Rattle.syn_step.specs.Steps.{OfRow, StepGives}
+use Rattle.syn_start.specs.Rows.{IsRowOf}
+use Rattle.syn_step.specs.Steps.{StepGives}
 use Rattle.syn_step.proofs.GivenSorts.{AllGive, canonical_gives, chosen_gives, formed_gives, gives_sort, substituted_give, variable_gives, variant_gives}
 use Rattle.syn_step.proofs.NumberedRows.{row_holds}
 

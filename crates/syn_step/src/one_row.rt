@@ -4,7 +4,7 @@ ghost use Rattle.syn_term.specs.Bank.{Extends};
 ghost use Rattle.syn_row.specs.Guards.{RuleBelongs};
 ghost use Rattle.syn_start.specs.declared.steps.Step.TheVariants as steps;
 ghost use Rattle.syn_start.specs.Initial.{Exactly, IsReady};
-ghost use Rattle.syn_step.specs.Rows.{IsRowOf};
+ghost use Rattle.syn_start.specs.Rows.{IsRowOf};
 ghost use Rattle.syn_step.specs.Steps.{StepGives};
 
 use crate::numbered::row_at;
@@ -73,13 +73,6 @@ pub(crate) fn reflex_row(
 {
     match row_at(rows, n) {
         None => Ok(None),
-        Some(row) => reflex(
-            alloc,
-            bank,
-            start.symbols(),
-            start.guard_rule(),
-            row,
-            at,
-        ),
+        Some(row) => reflex(alloc, bank, start.symbols(), start.guard_rule(), row, at),
     }
 }

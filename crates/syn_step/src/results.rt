@@ -60,9 +60,7 @@ pub fn result(
             dir,
             second,
             place,
-        } => equal_rows(
-            alloc, bank, start, rows, *first, at, *dir, *second, place,
-        ),
+        } => equal_rows(alloc, bank, start, rows, *first, at, *dir, *second, place),
         Step::Relate { .. } => Ok(None),
     }
 }

@@ -12,3 +12,7 @@ program_of-requires-clause-sort c = output_sort c.args.start.now c.spec-2.result
 
 pub returns-then-not-is_final-clause-program : goal.returns-then-not-is_final-clause-program
 returns-then-not-is_final-clause-program c = not_final c.args.start.now c.spec.result.now c.spec.ensures.is c.args.row.now c.if-not-is_final.ensures
+
+pub returns-clause-program : goal.returns-clause-program
+returns-clause-program c =
+    row_program c.args.start.now c.spec.result.now c.spec-2.result.now c.args.row.now c.in_ok-program.program c.spec.ensures.is c.spec-2.ensures.is (c.is_final.ensures.0 c.if-not-is_final.false) c.in_ok-program.ensures.program

@@ -7,7 +7,7 @@ same-is_one-requires c =
 
 pub returns-in-Ok-Some-clause-variant : goal.returns-in-Ok-Some-clause-variant
 returns-in-Ok-Some-clause-variant c =
-    variants_told c.canonical.ensures.laws c.args.made.now c.requires.ready.simplified c.requires.canonical c.args.row.now c.requires.simplified c.in-Ok-Some.found c.in-Ok-Some.field-0 c.same-is_one.result c.in-Ok-Some.field-0-is c.in-Ok-Some.ensures.row c.same-is_one.ensures
+    variants_told c.canonical.ensures.laws c.args.made.now c.requires.ready.simplified c.requires.canonical c.args.row.now c.requires.simplified c.in-Ok-Some.found c.in-Ok-Some.field-0 c.same-is_one.result c.in-Ok-Some.field-0-is c.in-Ok-Some.ensures.row c.same-is_one.ensures.same
 
 pub returns-in-Ok-None-clause-variant : goal.returns-in-Ok-None-clause-variant
 returns-in-Ok-None-clause-variant c =

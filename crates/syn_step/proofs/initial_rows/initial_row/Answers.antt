@@ -1,8 +1,5 @@
-use Rattle.std.proofs.Common.{List, IfOk, ap, sym, subst}
-use Rattle.std.proofs.lemmas.Result.{IfOk-weaker}
-use Rattle.syn_row.specs.Rows.{RowTree}
+use Rattle.std.proofs.Common.{ℕ, List, IfOk, sym, subst}
 use Rattle.syn_start.specs.declared.steps.Origin.{Origin}
-use Rattle.syn_start.specs.declared.steps.Origin.TheVariants as origin
 use Rattle.syn_start.specs.declared.steps.Step.TheVariants as step
 use Rattle.syn_start.specs.Initial.{DefRow, Exactly}
 use Rattle.syn_step.specs.Steps.{StepGives}
@@ -19,7 +16,4 @@ returns-in-Input-clause-row c = λ rows.
 pub returns-in-Def-clause-row : goal.returns-in-Def-clause-row
 returns-in-Def-clause-row c = λ rows.
     subst (λ (z : Origin). IfOk c.def_row.result (Exactly (StepGives c.args.start.now rows (step.Start z)))) (sym c.in-Def.is)
-    (subst (λ (name : List ℕ). IfOk c.def_row.result (Exactly (DefRow (c.args.start.now).theory.decls name c.in-Def.clause.now))) c.as_str.ensures c.def_row.ensures.row)
-
-
-
+    (subst (λ (name : List ℕ). IfOk c.def_row.result (Exactly (DefRow (c.args.start.now).theory.decls name c.in-Def.clause))) c.as_str.ensures c.def_row.ensures.row)

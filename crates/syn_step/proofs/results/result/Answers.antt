@@ -2,6 +2,7 @@ use Rattle.std.proofs.Common.{IfOk, sym, subst}
 use Rattle.syn_start.specs.declared.steps.Step.{Step}
 use Rattle.syn_start.specs.Initial.{Exactly}
 use Rattle.syn_step.specs.Steps.{StepGives}
+use Rattle.syn_step.proofs.NumberedRows.{resolve_lent}
 use Rattle.syn_step.proofs.StepOutputs.{result_fits}
 use Rattle.syn_step.proofs.results.result.Goals as goal
 
@@ -38,12 +39,12 @@ returns-in-Reflex-clause-output c =
     (subst (λ (z : Step). IfOk c.reflex_row.result (Exactly (StepGives c.args.start.now c.args.rows.now z))) (sym c.in-Reflex.is) c.reflex_row.ensures.row)
 
 pub returns-in-Resolve-clause-row : goal.returns-in-Resolve-clause-row
-returns-in-Resolve-clause-row c = subst (λ (z : Step). IfOk c.resolve_rows.result (Exactly (StepGives c.args.start.now c.args.rows.now z))) (sym c.in-Resolve.is) c.resolve_rows.ensures.row
+returns-in-Resolve-clause-row c = resolve_lent (λ (z : Step). IfOk c.resolve_rows.result (Exactly (StepGives c.args.start.now c.args.rows.now z))) c.args.step.now c.in-Resolve.first c.in-Resolve.second c.in-Resolve.ps c.in-Resolve.qs c.as_slice.result.now c.as_slice-in-Resolve.result.now c.in-Resolve.is c.as_slice.ensures c.as_slice-in-Resolve.ensures c.resolve_rows.ensures.row
 
 pub returns-in-Resolve-clause-output : goal.returns-in-Resolve-clause-output
 returns-in-Resolve-clause-output c =
     result_fits c.args.start.now c.args.bank.now c.args.rows.now c.requires.rows c.args.step.now c.resolve_rows.result
-    (subst (λ (z : Step). IfOk c.resolve_rows.result (Exactly (StepGives c.args.start.now c.args.rows.now z))) (sym c.in-Resolve.is) c.resolve_rows.ensures.row)
+    (resolve_lent (λ (z : Step). IfOk c.resolve_rows.result (Exactly (StepGives c.args.start.now c.args.rows.now z))) c.args.step.now c.in-Resolve.first c.in-Resolve.second c.in-Resolve.ps c.in-Resolve.qs c.as_slice.result.now c.as_slice-in-Resolve.result.now c.in-Resolve.is c.as_slice.ensures c.as_slice-in-Resolve.ensures c.resolve_rows.ensures.row)
 
 pub returns-in-Equal-clause-row : goal.returns-in-Equal-clause-row
 returns-in-Equal-clause-row c = subst (λ (z : Step). IfOk c.equal_rows.result (Exactly (StepGives c.args.start.now c.args.rows.now z))) (sym c.in-Equal.is) c.equal_rows.ensures.row
