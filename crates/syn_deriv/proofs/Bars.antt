@@ -1,16 +1,15 @@
 -- No word of a formula is a bar, so the words of a row are cut at their first bar in one way.
-use Rattle.std.proofs.Common.{◌≡◌, ℕ, zero, suc, ◌+◌, ◌<◌, ◌≤◌, inl, inr, ◌⊎◌, Bool, true, false, List, [], ◌∷◌, ◌++◌, All, Option, None, Some, codes, drop, take, get_or, length, map, slice_get, refl, sym, ◌∙◌, ap, subst, arith}
+use Rattle.std.proofs.Common.{◌≡◌, ℕ, zero, suc, ◌+◌, ◌<◌, ◌≤◌, inl, inr, false, List, [], ◌∷◌, ◌++◌, All, Option, None, Some, codes, drop, take, get_or, length, map, slice_get, refl, sym, ◌∙◌, ap, subst, arith}
 use Rattle.std.proofs.lemmas.List.{take_all}
 use Rattle.std.proofs.lemmas.List.Elements.{All-cons, All-head, All-more, All-nil, All-tail}
 use Rattle.std.proofs.lemmas.Option.{slice_get-get_or}
-use Rattle.syn_term.specs.declared.tokens.TokenKind.TheVariants as kind
 use Rattle.syn_term.specs.Symbols.{SymbolTable}
 use Rattle.syn_term.specs.Tokens.{Word}
 use Rattle.syn_form.specs.declared.syntax.Lexeme.{Lexeme}
 use Rattle.syn_form.specs.declared.syntax.Lexeme.TheVariants as lexeme
 use Rattle.syn_form.specs.declared.syntax.Mark.{Mark}
 use Rattle.syn_form.specs.declared.syntax.Mark.TheVariants as mark
-use Rattle.syn_form.specs.Grammar.{mark_word, name_word, sign_word, spelling, words_of_form}
+use Rattle.syn_form.specs.Grammar.{mark_word, sign_word, spelling, words_of_form}
 use Rattle.syn_form.specs.Scopes.{TextScope}
 use Rattle.syn_form.specs.Texts.{IsFormOf, Limit}
 use Rattle.syn_form.specs.Trees.{FormTree, OutTree}

@@ -1,5 +1,5 @@
 -- What a reader of the words behind a row's kind answers, by what the readers of its parts answer.
-use Rattle.std.proofs.Common.{◌≡◌, ◌↔◌, ℕ, Bool, List, [], ◌∷◌, ◌++◌, All, IfOk, IfSome, IsTrue, MatchOption, Option, None, Some, Result, Ok, Err, drop, take, refl, sym, ◌∙◌, ap, subst}
+use Rattle.std.proofs.Common.{◌≡◌, ◌↔◌, ℕ, Bool, List, [], ◌∷◌, All, IfOk, IfSome, IsTrue, MatchOption, Option, None, Some, Result, Ok, Err, drop, take, refl, sym, ◌∙◌, ap, subst}
 use Rattle.std.specs.Option.{option_map, option_map_or}
 use Rattle.std.proofs.lemmas.List.{take-append-drop}
 use Rattle.std.proofs.lemmas.List.Elements.{All-append, All-nil}
