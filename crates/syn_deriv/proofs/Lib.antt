@@ -6,3 +6,6 @@ pub mod PositionsRead
 pub mod Bars
 pub mod BareRows
 pub mod RowsTold
+pub mod LineLaws
+pub mod TextLoop
+pub mod DerivationSteps

@@ -77,11 +77,11 @@ impl Progress {
         ensures taken { (x : _) → TakesDerivationWords x (seen self.old.derivation) words.now (seen self.new.derivation) result }
         ensures rows { (x : _) (bank : _) → AreLinesOf x bank self.new.derivation }
     {
-        let begins = is_header(words);
-        if begins {
-            drop(self.derivation.replace(Derivation::new(alloc)));
+        if !is_header(words) {
+            return false;
         }
-        begins
+        drop(self.derivation.replace(Derivation::new(alloc)));
+        true
     }
 
     /// Goes on by the words of a line. Whether they lead on is the answer.
