@@ -9,3 +9,4 @@ pub mod RowsTold
 pub mod LineLaws
 pub mod TextLoop
 pub mod DerivationSteps
+pub mod RowsKept
