@@ -1,5 +1,8 @@
 -- Where the words of a derivation's lines lead: one state at most, what a reader knows that was led there, and what it knows at the end.
-use Rattle.std.proofs.Common.{◌≡◌, ℕ, ◌+◌, Bool, true, false, List, [], ◌∷◌, ◌++◌, All, IfOk, Result, Option, None, Some, codes, length, map, refl, sym, ◌∙◌, ap, subst}
+use Rattle.std.proofs.Common.{◌≡◌, ◌↔◌, ℕ, ◌+◌, Bool, IsTrue, true, false, true≢false, List, [], ◌∷◌, ◌++◌, All, IfOk, Result, Option, None, Some, codes, length, map, refl, sym, ◌∙◌, ap, subst, arith}
+use Rattle.std.specs.Str.{bytes_eq}
+use Rattle.std.proofs.lemmas.Slice.Eq.{bytes_eq-Decides}
+use Rattle.std.proofs.lemmas.Option.{same_Some}
 use Rattle.std.proofs.lemmas.List.{length-map, map-append}
 use Rattle.std.proofs.lemmas.Result.{IfOk-weaker}
 use Rattle.syn_term.specs.declared.memory.NoMemory.{NoMemory}
@@ -16,13 +19,58 @@ use Rattle.syn_start.specs.declared.steps.Step.{Step}
 use Rattle.syn_start.specs.Derivations.{Lines}
 use Rattle.syn_start.specs.Starts.{StartTree}
 use Rattle.syn_deriv.specs.DerivationLines.{DerivationLine, DerivationState, DerivationWordsLead, IsBegun, IsDerivationText, WritesLine, bare_line, bare_lines, blank, header, number_word, one_row}
+use Rattle.syn_deriv.specs.inner.Firsts.{Got, got, name_first, number_first}
 use Rattle.syn_deriv.specs.inner.Telling.{TakesDerivationLine, TakesDerivationWords, seen}
+use Rattle.syn_deriv.proofs.FirstLaws.{name_read, number_read, number_reads, same_text}
 use Rattle.syn_deriv.proofs.LineLaws.{line_once}
 use Rattle.syn_deriv.proofs.TextLoop.{early_at}
 
 -- the first line
 abbrev pub header_words : List Word
 header_words = name_word (codes "derivation") ∷ number_word 1 ∷ []
+
+same_got : {A : Type 0} (o : Option (Got A)) (g h : Got A) → o ≡ Some g → o ≡ Some h → g ≡ h
+same_got o g h e f = same_Some g h (sym e ∙ f)
+
+nothing_got : {A : Type 0} (o : Option A) (g : A) → o ≡ None → o ≡ Some g → ⊥
+nothing_got o g e f = let k : None ≡ Some g = sym e ∙ f in absurd (cc)
+
+-- its number
+abbrev version_words : List Word
+version_words = number_word 1 ∷ []
+
+version_reads : (ws : List Word) → ws ≡ version_words → number_first ws ≡ Some (got 1 [])
+version_reads ws e = ap number_first e ∙ number_reads 1 [] (omega arith)
+
+pub no_version : (ws : List Word) → number_first ws ≡ None → ws ≡ version_words → ⊥
+no_version ws none e = nothing_got (number_first ws) (got 1 []) none (version_reads ws e)
+
+pub other_version : (ws left : List Word) (n : ℕ) → number_first ws ≡ Some (got n left) → (n ≡ 1 → ⊥) → ws ≡ version_words → ⊥
+other_version ws left n there other e = other (ap (λ (z : Got ℕ). z.value) (same_got (number_first ws) (got n left) (got 1 []) there (version_reads ws e)))
+
+pub this_version : (ws left : List Word) (n : ℕ) (b : Bool) → number_first ws ≡ Some (got n left) → n ≡ 1 → (IsTrue b ↔ (left ≡ [])) → IsTrue b ↔ (ws ≡ version_words)
+this_version ws left n b there same h = (
+  (λ t. (number_read ws (got n left) there).0 ∙ (ap (λ (z : ℕ). number_word z ∷ left) same ∙ ap (λ (z : List Word). number_word 1 ∷ z) (h.0 t))),
+  (λ e. h.1 (ap (λ (z : Got ℕ). z.left) (same_got (number_first ws) (got n left) (got 1 []) there (version_reads ws e)))),
+)
+
+-- its name
+header_reads : (ws : List Word) → ws ≡ header_words → name_first ws ≡ Some (got (codes "derivation") version_words)
+header_reads ws e = ap name_first e
+
+pub no_header : (ws : List Word) → name_first ws ≡ None → ws ≡ header_words → ⊥
+no_header ws none e = nothing_got (name_first ws) (got (codes "derivation") version_words) none (header_reads ws e)
+
+pub other_header : (ws left : List Word) (name : List ℕ) → name_first ws ≡ Some (got name left) → bytes_eq name (codes "derivation") ≡ false → ws ≡ header_words → ⊥
+other_header ws left name there other e =
+    let g = same_got (name_first ws) (got name left) (got (codes "derivation") version_words) there (header_reads ws e) in
+    true≢false (sym ((bytes_eq-Decides name (codes "derivation")).1 (ap (λ (z : Got (List ℕ)). z.value) g)) ∙ other)
+
+pub this_header : (ws left : List Word) (name : List ℕ) (b : Bool) → name_first ws ≡ Some (got name left) → bytes_eq name (codes "derivation") ≡ true → (IsTrue b ↔ (left ≡ version_words)) → IsTrue b ↔ (ws ≡ header_words)
+this_header ws left name b there same h = (
+  (λ t. name_read ws (got name left) there ∙ (ap (λ (z : List ℕ). name_word z ∷ left) (same_text name (codes "derivation") same) ∙ ap (λ (z : List Word). name_word (codes "derivation") ∷ z) (h.0 t))),
+  (λ e. h.1 (ap (λ (z : Got (List ℕ)). z.left) (same_got (name_first ws) (got name left) (got (codes "derivation") version_words) there (header_reads ws e)))),
+)
 
 module _ (x : StartTree) where
   -- where words lead, by what is known

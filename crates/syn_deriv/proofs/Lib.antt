@@ -9,6 +9,7 @@ pub mod RowsTold
 pub mod LineLaws
 pub mod TextLoop
 pub mod DerivationSteps
+pub mod RowsKept
 pub mod WholeLines
 pub mod PrintedSpelling
 pub mod PrintedSteps
