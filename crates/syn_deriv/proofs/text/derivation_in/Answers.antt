@@ -31,3 +31,6 @@ pub returns-clause-answer : goal.returns-clause-answer
 returns-clause-answer c = λ bytes cut.
     let n : length (map (λ line. line.now) c.args.cut.now.lines.items) ≡ length c.args.cut.now.lines.items = count c.args.cut.now.lines.items in
     c.finished.ensures.answer c.args.start.now bytes cut (subst (λ z. Lead (DerivationLine c.args.start.now) None z (seen c.loop-i.progress.derivation)) (take_all c.loop-i.i _ (omega (arith, n, c.len-i-end.ensures, c.loop-i-test.false))) c.loop-i.invariant.led)
+
+pub returns-clause-rows : goal.returns-clause-rows
+returns-clause-rows c = c.finished.ensures.rows c.args.start.now c.loop-i.bank c.loop-i.invariant.rows
