@@ -1,6 +1,5 @@
--- What a reader of a derivation's lines knows: before the first line, behind it, and behind a row, by what the reader of a row tells.
-use Rattle.std.proofs.Common.{◌≡◌, ◌↔◌, ℕ, ◌+◌, IsTrue, false, List, [], ◌∷◌, ◌++◌, All, IfSome, Option, None, Some, length, sym, subst, true≢false}
-use Rattle.std.proofs.lemmas.List.Elements.{All-nil}
+-- What a reader of a derivation's lines knows behind a row, by what the reader of a row tells.
+use Rattle.std.proofs.Common.{◌≡◌, ◌↔◌, ℕ, ◌+◌, IsTrue, false, List, [], ◌∷◌, ◌++◌, IfSome, Option, None, Some, length, sym, subst, true≢false}
 use Rattle.syn_term.specs.Bank.{Extends, Kept}
 use Rattle.syn_term.specs.Tokens.{Word}
 use Rattle.syn_row.specs.Rows.{RowTree}
@@ -11,7 +10,7 @@ use Rattle.syn_start.specs.Starts.{StartTree}
 use Rattle.syn_deriv.specs.DerivationLines.{DerivationState, DerivationWordsLead, WritesLine, bare_line, bare_lines}
 use Rattle.syn_deriv.specs.inner.Telling.{AreLinesOf, Tells}
 use Rattle.syn_deriv.proofs.DerivationSteps.{row_missing, row_taken}
-use Rattle.syn_deriv.proofs.RowsKept.{lines_extend, lines_more}
+use Rattle.syn_deriv.proofs.RowsKept.{lines_more}
 
 -- a test that fails
 pub refused : (P : Type 0) → (P → ⊥) → IsTrue false ↔ P
@@ -21,22 +20,12 @@ module _ (x : StartTree) where
   abbrev LineOf : Kept → Step × RowTree → Type 0
   LineOf bank l = IsRowOf x bank l.1
 
-  -- before the first line, and behind it
-  pub no_rows : (bank : Kept) (d : Option Lines) → d ≡ None → AreLinesOf x bank d
-  no_rows bank d e = subst (AreLinesOf x bank) (sym e) tt
-
-  pub rows_begun : (bank : Kept) (d : Option Lines) → d ≡ Some [] → AreLinesOf x bank d
-  rows_begun bank d e = subst (AreLinesOf x bank) (sym e) (All-nil (LineOf bank))
-
   -- behind a row
   line_there : (b : Kept) (o : Option (Step × RowTree)) (l : Step × RowTree) → o ≡ Some l → IfSome o (LineOf b) → IsRowOf x b l.1
   line_there b o l is h = subst (λ (z : Option (Step × RowTree)). IfSome z (LineOf b)) is h
 
   pub rows_more : (a b : Kept) (d new : Lines) (o : Option (Step × RowTree)) (l : Step × RowTree) → Extends a b → AreLinesOf x a (Some d) → IfSome o (LineOf b) → o ≡ Some l → new ≡ d ++ l ∷ [] → AreLinesOf x b (Some new)
   rows_more a b d new o l e h row is more = lines_more x a b d new l more e h (line_there b o l is row)
-
-  pub rows_kept : (a b : Kept) (d new : Lines) → Extends a b → new ≡ d → AreLinesOf x a (Some d) → AreLinesOf x b (Some new)
-  rows_kept a b d new e is h = subst (λ (z : Lines). AreLinesOf x b (Some z)) (sym is) (lines_extend x a b (Some d) e h)
 
   -- what the reader of a row's line tells
   module _ (d : Lines) (words : List Word) (n : ℕ) (o : Option (Step × RowTree)) (number : n ≡ length d + 1) (told : Tells bare_line (λ l. WritesLine x n l words) o) where
