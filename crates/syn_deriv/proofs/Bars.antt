@@ -1,20 +1,21 @@
 -- No word of a formula is a bar, so the words of a row are cut at their first bar in one way.
-use Rattle.std.proofs.Common.{◌≡◌, ℕ, zero, suc, ◌+◌, ◌<◌, inl, inr, ◌⊎◌, List, [], ◌∷◌, ◌++◌, All, Option, None, Some, codes, drop, take, get_or, length, map, slice_get, refl, sym, ◌∙◌, ap, subst}
+use Rattle.std.proofs.Common.{◌≡◌, ℕ, zero, suc, ◌+◌, ◌<◌, ◌≤◌, inl, inr, false, List, [], ◌∷◌, ◌++◌, All, Option, None, Some, codes, drop, take, get_or, length, map, slice_get, refl, sym, ◌∙◌, ap, subst, arith}
+use Rattle.std.proofs.lemmas.List.{take_all}
 use Rattle.std.proofs.lemmas.List.Elements.{All-cons, All-head, All-more, All-nil, All-tail}
 use Rattle.std.proofs.lemmas.Option.{slice_get-get_or}
-use Rattle.syn_term.specs.declared.tokens.TokenKind.TheVariants as kind
 use Rattle.syn_term.specs.Symbols.{SymbolTable}
 use Rattle.syn_term.specs.Tokens.{Word}
 use Rattle.syn_form.specs.declared.syntax.Lexeme.{Lexeme}
 use Rattle.syn_form.specs.declared.syntax.Lexeme.TheVariants as lexeme
 use Rattle.syn_form.specs.declared.syntax.Mark.{Mark}
 use Rattle.syn_form.specs.declared.syntax.Mark.TheVariants as mark
-use Rattle.syn_form.specs.Grammar.{mark_word, name_word, sign_word, spelling, words_of_form}
+use Rattle.syn_form.specs.Grammar.{mark_word, sign_word, spelling, words_of_form}
 use Rattle.syn_form.specs.Scopes.{TextScope}
 use Rattle.syn_form.specs.Texts.{IsFormOf, Limit}
 use Rattle.syn_form.specs.Trees.{FormTree, OutTree}
 use Rattle.syn_deriv.specs.DerivationLines.{WritesOutput}
-use Rattle.syn_deriv.specs.inner.Telling.{IsBack, IsOther}
+use Rattle.syn_deriv.specs.inner.Firsts.{is_sign}
+use Rattle.syn_deriv.specs.inner.Telling.{IsBack, IsCutAt, IsOther}
 
 abbrev pub bar : Word
 bar = sign_word (codes "|")
@@ -23,43 +24,44 @@ bar = sign_word (codes "|")
 abbrev pub NoBar : Word → Type 0
 NoBar = IsOther (codes "|")
 
-name_other : (x : List ℕ) → NoBar (name_word x)
-name_other x e = let n : kind.Name ≡ kind.Sign = ap (λ (v : Word). v.kind) e in absurd (cc)
+-- so the test says
+abbrev IsTestedOther : Word → Type 0
+IsTestedOther w = is_sign (codes "|") w ≡ false
 
-sign_other : (x : List ℕ) → (x ≡ codes "|" → ⊥) → NoBar (sign_word x)
-sign_other x never e = never (ap (λ (v : Word). v.bytes) e)
+tested_other : (w : Word) → IsTestedOther w → NoBar w
+tested_other w e is = let k : is_sign (codes "|") bar ≡ false = subst IsTestedOther is e in absurd (cc)
 
-mark_other : (m : Mark) → NoBar (mark_word m)
-mark_other mark.Open = sign_other (codes "(") (λ e. absurd (cc))
-mark_other mark.Close = sign_other (codes ")") (λ e. absurd (cc))
-mark_other mark.Comma = sign_other (codes ",") (λ e. absurd (cc))
-mark_other mark.Colon = sign_other (codes ":") (λ e. absurd (cc))
-mark_other mark.Dot = sign_other (codes ".") (λ e. absurd (cc))
-mark_other mark.Equals = sign_other (codes "=") (λ e. absurd (cc))
-mark_other mark.Arrow = sign_other (codes "->") (λ e. absurd (cc))
-mark_other mark.BothWays = sign_other (codes "<->") (λ e. absurd (cc))
-mark_other mark.Not = name_other (codes "not")
-mark_other mark.And = name_other (codes "and")
-mark_other mark.Or = name_other (codes "or")
-mark_other mark.If = name_other (codes "if")
-mark_other mark.Then = name_other (codes "then")
-mark_other mark.Else = name_other (codes "else")
-mark_other mark.True = name_other (codes "true")
-mark_other mark.False = name_other (codes "false")
-mark_other mark.ForAll = name_other (codes "all")
-mark_other mark.ForSome = name_other (codes "some")
-mark_other mark.Nat = name_other (codes "nat")
+mark_other : (m : Mark) → IsTestedOther (mark_word m)
+mark_other mark.Open = refl
+mark_other mark.Close = refl
+mark_other mark.Comma = refl
+mark_other mark.Colon = refl
+mark_other mark.Dot = refl
+mark_other mark.Equals = refl
+mark_other mark.Arrow = refl
+mark_other mark.BothWays = refl
+mark_other mark.Not = refl
+mark_other mark.And = refl
+mark_other mark.Or = refl
+mark_other mark.If = refl
+mark_other mark.Then = refl
+mark_other mark.Else = refl
+mark_other mark.True = refl
+mark_other mark.False = refl
+mark_other mark.ForAll = refl
+mark_other mark.ForSome = refl
+mark_other mark.Nat = refl
 
-lexeme_other : (l : Lexeme) → NoBar (spelling l)
-lexeme_other (lexeme.Number k) e = let n : kind.Number ≡ kind.Sign = ap (λ (v : Word). v.kind) e in absurd (cc)
-lexeme_other (lexeme.RowVar k s) e = let n : kind.RowVar ≡ kind.Sign = ap (λ (v : Word). v.kind) e in absurd (cc)
-lexeme_other (lexeme.Name x) e = name_other x e
-lexeme_other (lexeme.Skolem x) e = let n : kind.Skolem ≡ kind.Sign = ap (λ (v : Word). v.kind) e in absurd (cc)
-lexeme_other (lexeme.Fixed m) e = mark_other m e
+lexeme_other : (l : Lexeme) → IsTestedOther (spelling l)
+lexeme_other (lexeme.Number k) = refl
+lexeme_other (lexeme.RowVar k s) = refl
+lexeme_other (lexeme.Name x) = refl
+lexeme_other (lexeme.Skolem x) = refl
+lexeme_other (lexeme.Fixed m) = mark_other m
 
 spelled_other : (ls : List Lexeme) → All NoBar (map spelling ls)
 spelled_other [] = All-nil NoBar
-spelled_other (l ∷ ls) = All-cons NoBar (spelling l) (map spelling ls) (lexeme_other l) (spelled_other ls)
+spelled_other (l ∷ ls) = All-cons NoBar (spelling l) (map spelling ls) (tested_other (spelling l) (lexeme_other l)) (spelled_other ls)
 
 -- no word of an expression is a bar
 pub form_other : (limit : Limit) (scope : TextScope) (words : List Word) (f : FormTree) → IsFormOf limit scope words f → All NoBar words
@@ -102,3 +104,9 @@ nothing_behind (w ∷ ws) = nothing_behind ws
 pub back_is : (back : List Word) → IsBack back → (back ≡ [] → ⊥) → bar ∷ drop 1 back ≡ back
 back_is back (inl e) some = absurd (some e)
 back_is back (inr h) some = ap (λ (z : List Word). bar ∷ drop 1 z) h.1 ∙ sym h.1
+
+pub whole_cut : (words : List Word) (k n : ℕ) → n ≡ length words → length words ≤ k → All NoBar (take k words) → IsCutAt words n
+whole_cut words k n e le h = record {
+  others = subst (λ (m : ℕ). All NoBar (take m words)) (sym e) (subst (All NoBar) (take_all k words le ∙ sym (take_all (length words) words (omega arith))) h);
+  behind = subst (λ (m : ℕ). IsBack (drop m words)) (sym e) (nothing_behind words);
+}

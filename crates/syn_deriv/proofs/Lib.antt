@@ -6,6 +6,11 @@ pub mod PositionsRead
 pub mod Bars
 pub mod BareRows
 pub mod RowsTold
+pub mod LineLaws
+pub mod TextLoop
+pub mod DerivationSteps
+pub mod RowsKept
+pub mod WholeLines
 pub mod PrintedSpelling
 pub mod PrintedSteps
 pub mod PrintedRows

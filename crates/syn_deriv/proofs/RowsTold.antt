@@ -1,15 +1,21 @@
 -- What a reader of the words behind a row's kind answers, by what the readers of its parts answer.
-use Rattle.std.proofs.Common.{◌≡◌, ℕ, List, [], ◌∷◌, ◌++◌, All, IfSome, MatchOption, Option, None, Some, drop, take, refl, sym, ◌∙◌, ap, subst}
+use Rattle.std.proofs.Common.{◌≡◌, ◌↔◌, ℕ, Bool, List, [], ◌∷◌, All, IfOk, IfSome, IsTrue, MatchOption, Option, None, Some, Result, Ok, Err, drop, take, refl, sym, ◌∙◌, ap, subst}
 use Rattle.std.specs.Option.{option_map, option_map_or}
 use Rattle.std.proofs.lemmas.List.{take-append-drop}
 use Rattle.std.proofs.lemmas.List.Elements.{All-append, All-nil}
+use Rattle.syn_term.specs.declared.memory.NoMemory.{NoMemory}
+use Rattle.syn_term.specs.declared.sorts.Sort.{Sort}
 use Rattle.syn_term.specs.Bank.{Belongs, Kept}
+use Rattle.syn_term.specs.Symbols.{SymbolTable}
 use Rattle.syn_term.specs.Tokens.{Word}
 use Rattle.syn_form.specs.declared.trees.Side.{Side}
+use Rattle.syn_form.specs.Plain.{given_sort}
 use Rattle.syn_form.specs.Texts.{IsFormOf, IsOutOf, expression_limit}
 use Rattle.syn_form.specs.Trees.{FormTree, OutTree, bare_form, bare_out, form_terms, out_terms}
 use Rattle.syn_expr.specs.Belonging.{FormBelongs, FormBelongs-terms, OutBelongs, OutBelongs-terms}
-use Rattle.syn_expr.specs.TextAnswers.{OneAtMost}
+use Rattle.syn_expr.specs.declared.error.ExprError.{ExprError}
+use Rattle.syn_expr.specs.declared.error.ExprError.TheVariants as error
+use Rattle.syn_expr.specs.TextAnswers.{AnswersReading, OneAtMost}
 use Rattle.syn_row.specs.Rows.{RowTree, bare_row}
 use Rattle.syn_start.specs.Rows.{IsRowOf}
 use Rattle.syn_start.specs.Starts.{StartTree}
@@ -17,6 +23,33 @@ use Rattle.syn_deriv.specs.DerivationLines.{IsTextRow, WritesOutput, row_scope}
 use Rattle.syn_deriv.specs.inner.Telling.{IsCutAt, Tells, WritesBack, WritesBehind}
 use Rattle.syn_deriv.proofs.BareRows.{row, text_back, text_bare}
 use Rattle.syn_deriv.proofs.Bars.{bar, cut_once, form_other, output_back}
+
+-- what a reader's answer says of the tree that it gives, and what it says where it gives none
+pub tells_some : {T : Type 0} (bare : T → T) (P : T → Type 0) (o : Option T) (t : T) → o ≡ Some t → Tells bare P o → P (bare t)
+tells_some bare P o t e h = subst (Tells bare P) e h
+
+pub tells_none : {T : Type 0} (bare : T → T) (P : T → Type 0) (o : Option T) → o ≡ None → Tells bare P o → (a : T) → P a → ⊥
+tells_none bare P o e h = subst (Tells bare P) e h
+
+pub answer_some : {T : Type 0} (bare : T → T) (P : T → Type 0) (r : Result (Option T) NoMemory) (o : Option T) (t : T) → r ≡ Ok o → o ≡ Some t → IfOk r (Tells bare P) → P (bare t)
+answer_some bare P r o t e f h = tells_some bare P o t f (subst (λ z. IfOk z (Tells bare P)) e h)
+
+pub answer_none : {T : Type 0} (bare : T → T) (P : T → Type 0) (r : Result (Option T) NoMemory) (o : Option T) → r ≡ Ok o → o ≡ None → IfOk r (Tells bare P) → (a : T) → P a → ⊥
+answer_none bare P r o e f h = tells_none bare P o f (subst (λ z. IfOk z (Tells bare P)) e h)
+
+pub answer_kept : {T : Type 0} (P : T → Type 0) (r : Result (Option T) NoMemory) (o : Option T) (t : T) → r ≡ Ok o → o ≡ Some t → IfOk r (λ z. IfSome z P) → P t
+answer_kept P r o t e f h = subst (λ z. IfSome z P) f (subst (λ z. IfOk z (λ y. IfSome y P)) e h)
+
+pub refused : {T : Type 0} (bare : T → T) (Stands : T → Type 0) (r : Result T ExprError) → r ≡ Err error.Refused → AnswersReading bare Stands r → (a : T) → Stands a → ⊥
+refused bare Stands r e h = subst (AnswersReading bare Stands) e h
+
+-- the same over a table and words that are one
+pub over_words : (Q : SymbolTable → List Word → Type 0) (t u : SymbolTable) (ws vs : List Word) → t ≡ u → ws ≡ vs → Q t ws → Q u vs
+over_words Q t u ws vs e f h = subst (Q u) f (subst (λ (z : SymbolTable). Q z ws) e h)
+
+-- the sort of an output is the result's
+pub same_given : (b : Bool) (t u : SymbolTable) (o : OutTree) (s r : Sort) → t ≡ u → s ≡ r → (IsTrue b ↔ (given_sort t o ≡ Some s)) → IsTrue b ↔ (given_sort u o ≡ Some r)
+same_given b t u o s r f k h = subst (λ (z : Sort). IsTrue b ↔ (given_sort u o ≡ Some z)) k (subst (λ (z : SymbolTable). IsTrue b ↔ (given_sort z o ≡ Some s)) f h)
 
 module _ (x : StartTree) where
   abbrev pub Forms : List Word → FormTree → Type 0
@@ -37,7 +70,7 @@ module _ (x : StartTree) where
     IsAnswered a = MatchOption a (IsTextRow x (row s f o) → ⊥) (λ r. (r ≡ row s f o) × IsTextRow x (row s f o))
 
     answered : (back : List Word) → Writes (option_map bare_out o) back → ((p : Option OutTree) → Writes p back → p ≡ option_map bare_out o) → (a : Option RowTree) → IsAnswered a → Tells bare_row (WritesBack x s (bare_form f) back) a
-    answered back out one None never r w = never (text_back x (row s f o) (subst (IsTextRow x) (same_row s (bare_form f) (option_map bare_out o) r w.side w.form (one r.out w.output)) w.may))
+    answered back out one None never = λ r w. never (text_back x (row s f o) (subst (IsTextRow x) (same_row s (bare_form f) (option_map bare_out o) r w.side w.form (one r.out w.output)) w.may))
     answered back out one (Some r) h = subst (λ (z : RowTree). WritesBack x s (bare_form f) back (bare_row z)) (sym h.0) (record { side = refl; form = refl; output = out; may = text_bare x (row s f o) h.1 })
 
     out_there : (bank : Kept) (p : Option OutTree) → IfSome p (OutBelongs bank) → All (Belongs bank) (option_map_or out_terms p [])

@@ -1,9 +1,9 @@
 // The words of a line, read from the left. What is read says what stood at the front, and what is left.
-ghost use Rattle.std.specs.Prelude.{◌≡◌, ◌↔◌, [], None, Some, IsTrue, MatchOption, false, if◌then◌else◌};
+ghost use Rattle.std.specs.Prelude.{◌≡◌, ◌↔◌, [], All, None, Some, IsTrue, MatchOption, false, if◌then◌else◌};
 ghost use Rattle.std.specs.Str.{bytes_eq};
 ghost use Rattle.syn_term.specs.Tokens as words;
 ghost use Rattle.syn_term.specs.Tokens.{IsToken};
-ghost use Rattle.syn_lex.specs.Lexing.{word};
+ghost use Rattle.syn_lex.specs.Lexing.{IsTokenWord, word};
 ghost use Rattle.syn_deriv.specs.inner.Firsts as firsts;
 ghost use Rattle.syn_deriv.specs.inner.Firsts.{got};
 
@@ -135,9 +135,10 @@ impl<'a> Cursor<'a> {
         }
     }
 
-    /// The number at the front.
+    /// The number at the front. Each word is a token of its kind.
     pub(crate) fn number(&mut self) -> Option<u32>
-        ensures { MatchOption result (firsts.number_first self.old.left ≡ None) (λ n. firsts.number_first self.old.left ≡ Some (got n self.new.left)) }
+        ensures read { MatchOption result (firsts.number_first self.old.left ≡ None) (λ n. firsts.number_first self.old.left ≡ Some (got n self.new.left)) }
+        ensures each { All IsTokenWord self.old.left }
     {
         match self.left.get(0) {
             None => None,

@@ -21,7 +21,7 @@ use syn_form::{Form, Out, Side, given_sort};
 use syn_lex::Words;
 use syn_row::{Row, is_plain_row, is_within};
 use syn_start::Start;
-use syn_term::{Bank, NoMemory, Symbols};
+use syn_term::{Bank, NoMemory, Sort, Symbols};
 
 /// What rows may speak of: the symbols, row variables and no names.
 pub(crate) fn row_scope(syms: &Symbols) -> Scope<'_>
@@ -98,12 +98,19 @@ fn bar_place(words: &Words) -> usize
     words.len()
 }
 
+/// Whether the output gives a term of this sort.
+fn gives(syms: &Symbols, out: &Out, sort: Sort) -> bool
+    ensures { IsTrue result ↔ (plain.given_sort syms.now out.now ≡ Some sort) }
+{
+    given_sort(syms, out) == Some(sort)
+}
+
 /// Whether the output gives a term of the sort of the program's result.
 fn gives_result(start: &Start, out: &Out) -> bool
     ensures { IsTrue result ↔ (plain.given_sort (start.now).spec.table out.now ≡ Some (start.now).spec.head.result) }
 {
     let (_, sort) = start.spec().output();
-    given_sort(start.symbols(), out) == Some(sort)
+    gives(start.symbols(), out, sort)
 }
 
 /// The same, where there is an output.

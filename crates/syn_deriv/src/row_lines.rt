@@ -1,6 +1,7 @@
 // A row's line: its number, its rule, and the row behind a colon.
-ghost use Rattle.std.specs.Prelude.{◌≡◌, None, Some, IfOk, IfSome, MatchOption};
+ghost use Rattle.std.specs.Prelude.{◌≡◌, All, None, Some, IfOk, IfSome, MatchOption};
 ghost use Rattle.syn_term.specs.Bank.{Extends};
+ghost use Rattle.syn_lex.specs.Lexing.{IsTokenWord};
 ghost use Rattle.syn_row.specs.Rows.{bare_row};
 ghost use Rattle.syn_start.specs.Rows.{IsRowOf};
 ghost use Rattle.syn_deriv.specs.DerivationLines.{WritesLine, WritesRow, bare_line};
@@ -63,9 +64,10 @@ impl<'a> Cursor<'a> {
         }
     }
 
-    /// `N RULE:`, of the row with this number.
+    /// `N RULE:`, of the row with this number. Each word is a token of its kind.
     fn front(&mut self, alloc: Global, number: u64) -> Result<Option<Step>, NoMemory>
-        ensures { IfOk result (λ o. MatchOption o (reading.front_first number self.old.left ≡ None) (λ s. reading.front_first number self.old.left ≡ Some (got s self.new.left))) }
+        ensures read { IfOk result (λ o. MatchOption o (reading.front_first number self.old.left ≡ None) (λ s. reading.front_first number self.old.left ≡ Some (got s self.new.left))) }
+        ensures each { All IsTokenWord self.old.left }
     {
         let Some(own) = self.number() else {
             return Ok(None);

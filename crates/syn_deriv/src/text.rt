@@ -27,7 +27,12 @@ fn is_version(cursor: &mut Cursor<'_>) -> bool
 {
     match cursor.number() {
         None => false,
-        Some(version) => version == 1 && cursor.is_empty(),
+        Some(version) => {
+            if version != 1 {
+                return false;
+            }
+            cursor.is_empty()
+        }
     }
 }
 
@@ -40,7 +45,12 @@ fn is_header(words: &Words) -> bool
     };
     match cursor.name() {
         None => false,
-        Some(name) => is_text(name, "derivation") && is_version(&mut cursor),
+        Some(name) => {
+            if !is_text(name, "derivation") {
+                return false;
+            }
+            is_version(&mut cursor)
+        }
     }
 }
 
@@ -77,11 +87,11 @@ impl Progress {
         ensures taken { (x : _) → TakesDerivationWords x (seen self.old.derivation) words.now (seen self.new.derivation) result }
         ensures rows { (x : _) (bank : _) → AreLinesOf x bank self.new.derivation }
     {
-        let begins = is_header(words);
-        if begins {
-            drop(self.derivation.replace(Derivation::new(alloc)));
+        if !is_header(words) {
+            return false;
         }
-        begins
+        drop(self.derivation.replace(Derivation::new(alloc)));
+        true
     }
 
     /// Goes on by the words of a line. Whether they lead on is the answer.
