@@ -1,5 +1,5 @@
 -- Where the words of a derivation's lines lead: one state at most, what a reader knows that was led there, and what it knows at the end.
-use Rattle.std.proofs.Common.{◌≡◌, ◌↔◌, ℕ, ◌+◌, Bool, IsTrue, true, false, true≢false, List, [], ◌∷◌, ◌++◌, All, IfOk, Result, Option, None, Some, codes, length, map, refl, sym, ◌∙◌, ap, subst, arith}
+use Rattle.std.proofs.Common.{◌≡◌, ◌↔◌, ℕ, ◌+◌, Bool, IsTrue, true, false, true≢false, List, [], ◌∷◌, ◌++◌, All, IfOk, Result, Option, None, Some, codes, length, refl, sym, ◌∙◌, ap, subst, arith}
 use Rattle.std.specs.Str.{bytes_eq}
 use Rattle.std.proofs.lemmas.Slice.Eq.{bytes_eq-Decides}
 use Rattle.std.proofs.lemmas.Option.{same_Some}

@@ -1,6 +1,6 @@
 -- What stands at the front of words, and the other way round: words that begin so are read so.
-use Rattle.std.proofs.Common.{◌≡◌, ℕ, ◌<◌, ◌^◌, Bool, true, false, true≢false, ◌&&◌, List, [], ◌∷◌, Option, None, Some, Contains, decimal, if◌then◌else◌, inl, inr, nat_lt, refl, sym, ◌∙◌, ap, subst, arith}
-use Rattle.std.specs.Option.{option_and_then, option_map}
+use Rattle.std.proofs.Common.{◌≡◌, ℕ, ◌<◌, ◌^◌, Bool, true, false, true≢false, ◌&&◌, List, [], ◌∷◌, Option, None, Some, decimal, if◌then◌else◌, inl, inr, nat_lt, refl, sym, ◌∙◌, ap, subst, arith}
+use Rattle.std.specs.Option.{option_map}
 use Rattle.std.specs.Str.{IsUtf8, bytes_eq}
 use Rattle.std.specs.Str.Parse.{digits_value}
 use Rattle.std.proofs.lemmas.Bool.Decides.{nat_tests}
@@ -15,7 +15,7 @@ use Rattle.syn_term.proofs.ReservedWords.{reserved_word}
 use Rattle.syn_form.specs.Grammar.{name_word, sign_word}
 use Rattle.syn_lex.specs.Lexing.{IsTokenWord}
 use Rattle.syn_deriv.specs.DerivationLines.{IsFew, number_word}
-use Rattle.syn_deriv.specs.inner.Firsts.{Got, got, free_first, is_sign, is_sign_kind, name_first, name_of_kind, number_first, number_in, number_of, number_of_kind, sign_first, unreserved}
+use Rattle.syn_deriv.specs.inner.Firsts.{Got, got, free_first, is_sign, is_sign_kind, name_first, name_of_kind, number_first, number_of, number_of_kind, sign_first, unreserved}
 use Rattle.syn_deriv.proofs.NumberLaws.{number_some, tested}
 
 abbrev plain : TokenKind → List ℕ → Word

@@ -1,5 +1,5 @@
 -- Lines of a start, over a bank that is called again, and with one line more.
-use Rattle.std.proofs.Common.{◌≡◌, List, [], ◌∷◌, ◌++◌, All, Option, None, Some, subst, sym}
+use Rattle.std.proofs.Common.{◌≡◌, [], ◌∷◌, ◌++◌, All, Option, None, Some, subst, sym}
 use Rattle.std.proofs.lemmas.List.Elements.{All-append, All-cons, All-nil, All-weaker}
 use Rattle.syn_term.specs.Bank.{Belongs, Belongs-extends, Extends, Kept}
 use Rattle.syn_row.specs.Rows.{RowTree, row_terms}

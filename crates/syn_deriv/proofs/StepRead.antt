@@ -5,7 +5,7 @@ use Rattle.std.specs.Str.{bytes_eq}
 use Rattle.std.proofs.lemmas.Bool.Decides.{nat_tests}
 use Rattle.std.proofs.lemmas.List.Elements.{All-cons, All-head, All-nil, All-tail}
 use Rattle.std.proofs.lemmas.Option.{option_and_then_some}
-use Rattle.syn_term.specs.Tokens.{Word, is_reserved}
+use Rattle.syn_term.specs.Tokens.{Word}
 use Rattle.syn_form.specs.declared.trees.Side.{Side}
 use Rattle.syn_form.specs.declared.trees.Side.TheVariants as side
 use Rattle.syn_form.specs.Grammar.{name_word, sign_word}
@@ -19,7 +19,7 @@ use Rattle.syn_deriv.specs.declared.places.Replacement.{Replacement}
 use Rattle.syn_deriv.specs.declared.places.RowPosition.{RowPosition}
 use Rattle.syn_deriv.specs.declared.places.RowPositions.{RowPositions}
 use Rattle.syn_deriv.specs.DerivationLines.{AreWritten, HasText, IsFew, IsUsedText, direction, dotted, number_word, position_words, positions_words, side_name, step_words, used_words}
-use Rattle.syn_deriv.specs.inner.Firsts.{Got, got, ◌>>=◌, free_first, is_sign, name_first, number_first, number_of, sign_first}
+use Rattle.syn_deriv.specs.inner.Firsts.{Got, got, free_first, is_sign, name_first, number_first, number_of, sign_first}
 use Rattle.syn_deriv.specs.inner.StepReading.{axiom_first, before, changed_first, def_first, direction_first, direction_of, dual_first, equal_first, equality_step, front_first, more_behind, origin_by, position_at, position_first, positions_by, positions_first, reflex_first, relate_first, relation_step, replacement, replacement_first, resolution, resolve_first, resolved_first, row_position, row_position_first, row_positions, row_positions_first, rule_by, rule_first, side_first, side_of, split_first, step_by, step_first, steps_on, with_colon}
 use Rattle.syn_deriv.proofs.FirstLaws.{by_test, free_read, mapped, name_of_token, name_read, number_is, number_read, same_text, sign_is, sign_read}
 

@@ -1,11 +1,10 @@
 -- The front of a line, from what it says to what is read of it: the words of a step that has a text are read as that step, where
 -- nothing that goes on stands behind it.
-use Rattle.std.proofs.Common.{◌≡◌, ℕ, zero, suc, ◌+◌, ◌≤◌, Bool, true, false, List, [], ◌∷◌, ◌++◌, All, Option, None, Some, codes, if◌then◌else◌, length, nat_eq, refl, sym, ◌∙◌, ap, subst, append_assoc, arith}
+use Rattle.std.proofs.Common.{◌≡◌, ℕ, zero, suc, ◌≤◌, Bool, true, false, List, [], ◌∷◌, ◌++◌, All, Option, None, Some, codes, if◌then◌else◌, length, nat_eq, refl, ◌∙◌, ap, append_assoc, arith}
 use Rattle.std.specs.Option.{option_and_then, option_map}
 use Rattle.std.proofs.lemmas.Bool.Decides.{nat_tests}
 use Rattle.std.proofs.lemmas.List.{length-append}
 use Rattle.std.proofs.lemmas.List.Elements.{All-head, All-tail}
-use Rattle.syn_term.specs.Names.{IsName}
 use Rattle.syn_term.specs.Tokens.{Word}
 use Rattle.syn_form.specs.declared.trees.Side.{Side}
 use Rattle.syn_form.specs.declared.trees.Side.TheVariants as side
@@ -20,10 +19,10 @@ use Rattle.syn_deriv.specs.declared.places.Replacement.{Replacement}
 use Rattle.syn_deriv.specs.declared.places.RowPosition.{RowPosition}
 use Rattle.syn_deriv.specs.declared.places.RowPositions.{RowPositions}
 use Rattle.syn_deriv.specs.DerivationLines.{AreWritten, HasText, IsFew, IsUsedText, OriginHasText, direction, dotted, number_word, position_words, positions_words, side_name, step_words, used_words}
-use Rattle.syn_deriv.specs.inner.Firsts.{Got, got, free_first, is_sign, number_first, number_of, sign_first}
+use Rattle.syn_deriv.specs.inner.Firsts.{Got, got, is_sign, number_first, sign_first}
 use Rattle.syn_deriv.specs.inner.StepReading.{before, changed_first, direction_first, equality_step, front_first, more_behind, position_first, positions_by, positions_first, relation_step, replacement, replacement_first, resolution, resolved_first, row_position, row_position_first, row_positions, row_positions_first, rule_first, side_first, step_first, steps_on, with_colon}
 use Rattle.syn_deriv.proofs.FirstLaws.{free_reads, number_of_few, number_reads}
-use Rattle.syn_deriv.proofs.StepRead.{behind, dotted_is, positions_more, resolve_append, used_append}
+use Rattle.syn_deriv.proofs.StepRead.{behind, dotted_is, resolve_append, used_append}
 
 -- no full stop stands in front, and no comma
 pub record Stops (ws : List Word) : Type 0 where

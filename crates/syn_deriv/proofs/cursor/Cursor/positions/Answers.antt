@@ -1,4 +1,4 @@
-use Rattle.std.proofs.Common.{◌≡◌, None, Some, codes}
+use Rattle.std.proofs.Common.{◌≡◌, Some, codes}
 use Rattle.syn_deriv.specs.inner.Firsts.{got, sign_first}
 use Rattle.syn_deriv.specs.inner.StepReading.{position_first}
 use Rattle.syn_deriv.proofs.PositionsRead.{more_read, smaller}
