@@ -1,5 +1,9 @@
 // Which derivations are accepted, and the bodies of their programs.
-use crate::lines::derivation_of;
+ghost use Rattle.std.specs.Prelude.{All, IfSome};
+ghost use Rattle.syn_row.specs.Guards.{RuleBelongs};
+ghost use Rattle.syn_start.specs.Rows.{IsRowOf};
+
+use crate::reading::{derivation_of, text_of};
 use crate::samples::start_of;
 use std::alloc::Global;
 use std::process::Abort;
@@ -8,7 +12,7 @@ use syn_cases::cut;
 use syn_expr::{Scope, print_out};
 use syn_model::Program;
 use syn_replay::{CheckError, check};
-use syn_start::Derivation;
+use syn_start::{Derivation, Start};
 use syn_term::Bank;
 
 /// A specification, the lines of a derivation, and the body of the program, or why it isn't accepted.
@@ -23,15 +27,15 @@ same # 1 goal: goal ?1 = a | ?1 ; 2 reflex 2 -: goal true | a => row 2
 same # 1 goal: goal ?1 = a | ?1 ; 2 reflex 3 -: goal true | a ; 3 goal: goal ?1 = a | ?1 => row 2
 same # 1 goal: goal ?1 = a | ?1 ; 2 reflex 1 -: goal true | a ; 3 goal: goal ?1 = a | ?1 => not final
 same # 1 goal: goal ?1 = s(a) | ?1 ; 2 reflex 1 -: goal true | s(a) => row 1
-same # 1 goal: assert ?1 = a | ?1 => row 1
+same # 1 goal: assertion ?1 = a | ?1 => row 1
 same # 1 goal: goal ?1 = a => row 1
-same # 1 axiom x: assert true => row 1
-same # 1 input: assert true => not final
-two # 1 goal: goal ?1 = dbl(0) | ?1 ; 2 def dbl 1: assert dbl(0) = 0 ; 3 equal 2 - lr 1 2: goal ?1 = 0 | ?1 ; 4 reflex 3 -: goal true | 0 => 0
-two # 1 goal: goal ?1 = dbl(0) | ?1 ; 2 def dbl 2: assert dbl(0) = 0 ; 3 equal 2 - lr 1 2: goal ?1 = 0 | ?1 ; 4 reflex 3 -: goal true | 0 => row 2
+same # 1 axiom x: assertion true => row 1
+same # 1 input: assertion true => not final
+two # 1 goal: goal ?1 = dbl(0) | ?1 ; 2 def dbl 1: assertion dbl(0) = 0 ; 3 equal 2 - lr 1 2: goal ?1 = 0 | ?1 ; 4 reflex 3 -: goal true | 0 => 0
+two # 1 goal: goal ?1 = dbl(0) | ?1 ; 2 def dbl 2: assertion dbl(0) = 0 ; 3 equal 2 - lr 1 2: goal ?1 = 0 | ?1 ; 4 reflex 3 -: goal true | 0 => row 2
 two # 1 goal: goal ?1 = dbl(0) | ?1 ; 2 reflex 1 -: goal true | dbl(0) => not final
-two # 1 input: assert le(a, b) ; 2 dual 1: goal not le(a, b) => not final
-any # 1 input: assert false => 0
+two # 1 input: assertion le(a, b) ; 2 dual 1: goal not le(a, b) => not final
+any # 1 input: assertion false => 0
 free # 1 goal: goal true | ?1 => 0
 free # 1 goal: goal ?2 = ?2 | ?2 => 0
 free # 1 goal: goal ?2 = ?2 | ?3 => 0";
@@ -56,23 +60,42 @@ fn error_text(alloc: Global, error: CheckError) -> Result<String, Fail> {
     }
 }
 
-fn checked_text(alloc: Global, name: &str, lines: &str) -> Result<String, Fail> {
-    let mut bank = Bank::new(alloc);
-    let start = start_of(alloc, &mut bank, name)?;
-    let d = derivation_of(alloc, &mut bank, &start, lines, " ; ")?;
-    match check(alloc, &mut bank, &start, &d) {
+/// The body of the derivation's program, or why it isn't accepted.
+fn answer(alloc: Global, bank: &mut Bank, start: &Start, d: &Derivation) -> Result<String, Fail>
+    requires rule { IfSome (start.now).rule (RuleBelongs bank.old) }
+    requires rows { All (λ l. IsRowOf start.now bank.old l.1) d.now }
+{
+    match check(alloc, bank, start, d) {
         Ok(program) => body_text(alloc, &program),
         Err(error) => error_text(alloc, error),
     }
 }
 
+/// The same of the derivation of the text.
+#[tactic(auto, using(crate::proofs::Growth::growth))]
+fn checked(alloc: Global, bank: &mut Bank, start: &Start, text: &str) -> Result<String, Fail>
+    requires { IfSome (start.now).rule (RuleBelongs bank.old) }
+{
+    let d = derivation_of(alloc, bank, start, text)?;
+    answer(alloc, bank, start, &d)
+}
+
+fn checked_over(alloc: Global, bank: &mut Bank, name: &str, text: &str) -> Result<String, Fail> {
+    let start = start_of(alloc, bank, name)?;
+    checked(alloc, bank, &start, text)
+}
+
+fn checked_text(alloc: Global, name: &str, lines: &str) -> Result<String, Fail> {
+    let text = text_of(alloc, lines, " ; ")?;
+    checked_over(alloc, &mut Bank::new(alloc), name, text.as_str())
+}
+
 #[test]
 fn checks_derivations(rt: HostRuntime) -> Result<(), Fail> {
-    let alloc = rt.alloc();
     for line in CHECKED.lines() {
         let (case, want) = cut(line, " => ");
         let (name, lines) = cut(case, " # ");
-        let got = checked_text(alloc, name, lines)?;
+        let got = checked_text(rt.alloc(), name, lines)?;
         assert_eq!(rt; got.as_str(), want, "at {line}");
     }
     Ok(())
@@ -80,14 +103,8 @@ fn checks_derivations(rt: HostRuntime) -> Result<(), Fail> {
 
 #[test]
 fn refuses_no_lines(rt: HostRuntime) -> Result<(), Fail> {
-    let alloc = rt.alloc();
-    let mut bank = Bank::new(alloc);
-    let start = start_of(alloc, &mut bank, "same")?;
-    let d = Derivation::new(alloc);
-    let got = match check(alloc, &mut bank, &start, &d) {
-        Ok(program) => body_text(alloc, &program)?,
-        Err(error) => error_text(alloc, error)?,
-    };
+    let bank = &mut Bank::new(rt.alloc());
+    let got = checked_over(rt.alloc(), bank, "same", "derivation 1\n")?;
     assert_eq!(rt; got.as_str(), "not final");
     Ok(())
 }

@@ -13,6 +13,6 @@ mod given;
 #[cfg(test)]
 mod guarded;
 #[cfg(test)]
-mod lines;
+mod reading;
 #[cfg(test)]
 mod samples;

@@ -1,12 +1,9 @@
 // Theories, and specifications over them.
 ghost use Rattle.std.specs.Prelude.{IfOk, IfSome};
 ghost use Rattle.syn_row.specs.Guards.{RuleBelongs};
-ghost use Rattle.syn_model.specs.Specifications.{IsSpec};
 
 use std::alloc::Global;
 use std::test::Fail;
-use syn_files::{read_spec, read_theory};
-use syn_model::{Spec, Theory};
 use syn_start::Start;
 use syn_term::Bank;
 
@@ -132,31 +129,12 @@ fn spec_text(name: &str) -> &'static str {
     }
 }
 
-fn read_over(alloc: Global, theory: &Theory, text: &str) -> Result<Spec, Fail>
-    ensures { IfOk result (IsSpec (theory.now).decls) }
-{
-    match read_spec(alloc, &mut Bank::new(alloc), theory, text.as_bytes()) {
-        Ok(spec) => Ok(spec),
-        Err(_) => Err(Fail::new("no specification")),
-    }
-}
-
 /// What a derivation begins with, for a specification over a theory, both as texts.
 pub fn start_from(alloc: Global, bank: &mut Bank, theory: &str, spec: &str) -> Result<Start, Fail>
     ensures { IfOk result (λ s. IfSome s.rule (RuleBelongs bank.new)) }
 {
-    let theory = match read_theory(alloc, &mut Bank::new(alloc), theory.as_bytes()) {
-        Ok(theory) => theory,
-        Err(_) => return Err(Fail::new("no theory")),
-    };
-    let spec = read_over(alloc, &theory, spec)?;
-    if !theory.is_whole() {
-        return Err(Fail::new("a clause is missing"));
-    }
-    if !spec.is_whole() {
-        return Err(Fail::new("no output condition"));
-    }
-    Ok(Start::new(alloc, bank, &theory, &spec)?)
+    let theory = syn_start_cases::theory_of(alloc, theory)?;
+    syn_start_cases::start_of(alloc, bank, &theory, spec)
 }
 
 /// The same for the specification of this name.
