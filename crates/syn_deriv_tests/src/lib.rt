@@ -7,4 +7,6 @@ mod answers;
 #[cfg(test)]
 mod lines;
 #[cfg(test)]
+mod wide;
+#[cfg(test)]
 mod worked;
